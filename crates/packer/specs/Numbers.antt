@@ -1,0 +1,31 @@
+-- Numbers as bytes, document 01, "The envelope": "All numbers are big-endian." Each definition is over the width, in bytes.
+-- Assumes nothing.
+use Prim.Native.Nat.{ℕ, zero, suc, _+_, _*_, _-_, _/_, _%_, _^_}
+use mathlib.Core.Bool.{Bool, true, false}
+use mathlib.Core.List.{List, [], _∷_, _++_}
+use lib.Dec.{ltb}
+use lib.IntN.{ℤ, pos, negsuc}
+use lib.ListN.{getD}
+
+-- the number that the bytes of s from a place on are, so many, the highest first
+unfoldable pub beAt : List ℕ → ℕ → ℕ → ℕ
+beAt s at zero = 0
+beAt s at (suc width) = beAt s at width * 256 + getD s (at + width) 0
+
+-- the bytes of a number, so many, the highest first
+unfoldable pub bigEndian : ℕ → ℕ → List ℕ
+bigEndian zero n = []
+bigEndian (suc width) n = bigEndian width (n / 256) ++ (n % 256 ∷ [])
+
+abbrev pub pickZ : Bool → ℤ → ℤ → ℤ
+pickZ true a b = a
+pickZ false a b = b
+
+-- two's complement among so many numbers (256 ^ width): one from the middle on stands for itself less all of them
+unfoldable pub signedOf : ℕ → ℕ → ℤ
+signedOf all n = pickZ (ltb (n * 2) all) (pos n) (negsuc (all - suc n))
+
+-- and back
+unfoldable pub unsignedOf : ℕ → ℤ → ℕ
+unsignedOf all (pos n) = n
+unsignedOf all (negsuc n) = all - suc n

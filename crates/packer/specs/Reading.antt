@@ -1,0 +1,61 @@
+-- Reading at a position of a slice, document 01, "The envelope": "A read past the end of the slice is 1."
+-- Promises about the enums that the readers answer go through the maps at the end. Assumes nothing.
+use Prim.Native.Nat.{ℕ, _+_, _^_, _<_}
+use mathlib.Core.Bool.{Bool, true, false}
+use mathlib.Core.List.{List}
+use lib.Dec.{leb}
+use lib.IntN.{ℤ}
+use lib.ListN.{length, take, drop, replicate}
+use Rattle.refusals.specs.Refusals.{Answer, given, refused, decodeRefusal, incompleteData}
+use Rattle.packer.specs.Numbers.{beAt, signedOf}
+use Rattle.packer.specs.declared.UnpackedU8.{UnpackedU8}
+use Rattle.packer.specs.declared.UnpackedU8.the-variants as u8
+use Rattle.packer.specs.declared.UnpackedU16.{UnpackedU16}
+use Rattle.packer.specs.declared.UnpackedU16.the-variants as u16
+use Rattle.packer.specs.declared.UnpackedU32.{UnpackedU32}
+use Rattle.packer.specs.declared.UnpackedU32.the-variants as u32
+use Rattle.packer.specs.declared.UnpackedI16.{UnpackedI16}
+use Rattle.packer.specs.declared.UnpackedI16.the-variants as i16
+use Rattle.packer.specs.declared.UnpackedI32.{UnpackedI32}
+use Rattle.packer.specs.declared.UnpackedI32.the-variants as i32
+
+abbrev pub pick : {A : Type 0} → Bool → A → A → A
+pick true a b = a
+pick false a b = b
+
+-- what reading a value of so many bytes at a place answers: the value and the place after it, or IncompleteData
+unfoldable pub readAt : {A : Type 0} → ℕ → A → List ℕ → ℕ → Answer (A × ℕ)
+readAt width value s at = pick (leb (at + width) (length s)) (given (value, at + width)) (refused incompleteData)
+
+-- an unsigned number of so many bytes
+abbrev pub unsignedAt : ℕ → List ℕ → ℕ → Answer (ℕ × ℕ)
+unsignedAt width s at = readAt width (beAt s at width) s at
+
+-- a signed one
+abbrev pub signedAt : ℕ → List ℕ → ℕ → Answer (ℤ × ℕ)
+signedAt width s at = readAt width (signedOf (256 ^ width) (beAt s at width)) s at
+
+abbrev pub unpackedU8 : UnpackedU8 → Answer (ℕ × ℕ)
+unpackedU8 (u8.Got value next) = given (value, next)
+unpackedU8 (u8.Refused e) = refused (decodeRefusal e)
+
+abbrev pub unpackedU16 : UnpackedU16 → Answer (ℕ × ℕ)
+unpackedU16 (u16.Got value next) = given (value, next)
+unpackedU16 (u16.Refused e) = refused (decodeRefusal e)
+
+abbrev pub unpackedU32 : UnpackedU32 → Answer (ℕ × ℕ)
+unpackedU32 (u32.Got value next) = given (value, next)
+unpackedU32 (u32.Refused e) = refused (decodeRefusal e)
+
+abbrev pub unpackedI16 : UnpackedI16 → Answer (ℤ × ℕ)
+unpackedI16 (i16.Got value next) = given (value, next)
+unpackedI16 (i16.Refused e) = refused (decodeRefusal e)
+
+abbrev pub unpackedI32 : UnpackedI32 → Answer (ℤ × ℕ)
+unpackedI32 (i32.Got value next) = given (value, next)
+unpackedI32 (i32.Refused e) = refused (decodeRefusal e)
+
+-- a number that was read lies below a bound
+abbrev pub NumberBelow : ℕ → UnpackedU32 → Type 0
+NumberBelow bound (u32.Got value next) = value < bound
+NumberBelow bound (u32.Refused e) = Unit {0}

@@ -1,0 +1,47 @@
+// Why an answer is no. Ports `DecodeError` and `EncodeError` of src/command.rs; document 01, "Six
+// refusals", gives each its number and says what is returned with it. Assumes nothing.
+ghost use mathlib.Core.Path.{_≡_};
+ghost use Rattle.refusals.specs.Refusals.{decodeRefusal, encodeRefusal};
+
+// Why a slice is not read.
+pub enum DecodeError {
+    IncompleteData,
+    InvalidFrame,
+    UnknownPacket { id: u8 },
+    ChecksumMismatch { expected: u16, actual: u16 },
+}
+
+// Why a buffer is not written.
+pub enum EncodeError {
+    BufferTooSmall,
+    PayloadTooLong,
+}
+
+impl DecodeError {
+    // Document 01's number.
+    pub fn number(self) -> u8
+        ensures { λ r. ⌜ r ≡ decodeRefusal self .number ⌝ }
+    {
+        match self {
+            DecodeError::IncompleteData => 1,
+            DecodeError::InvalidFrame => 2,
+            DecodeError::UnknownPacket { id: _ } => 3,
+            DecodeError::ChecksumMismatch {
+                expected: _,
+                actual: _,
+            } => 4,
+        }
+    }
+}
+
+impl EncodeError {
+    // Document 01's number.
+    pub fn number(self) -> u8
+        ensures { λ r. ⌜ r ≡ encodeRefusal self .number ⌝ }
+    {
+        match self {
+            EncodeError::BufferTooSmall => 5,
+            EncodeError::PayloadTooLong => 6,
+        }
+    }
+}
