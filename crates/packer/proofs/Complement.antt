@@ -1,16 +1,16 @@
 -- Two's complement, as the machine works it out. Assumes nothing.
-use mathlib.Core.Path.{_≡_, refl, ap, _∙_}
+use mathlib.Core.Path.{_≡_, refl, sym, ap, _∙_}
 use mathlib.Core.Bool.{Bool, true, false, not}
 use Prim.Native.Nat.{ℕ, zero, suc, _+_, _-_, _*_, _≤_, _<_, _^_}
 use native.Mathlib.Omega.{arith}
 use lib.Dec.{T, ltb, ltb→lt, nltb→le}
 use lib.IntN.{ℤ, pos, negsuc, _-ℤ_}
-use lib.Signed.{mag}
+use lib.Signed.{mag, ltZ}
 use borrow.Author.Tests.{lt-ltb, le-ltb}
 use mir.Val.{SFits, toZ, ofZ, hbits}
 use mir.Syntax.{w16, w32}
 use mir.ValLaws.{toZ-pos, toZ-ofZ}
-use Rattle.packer.specs.Numbers.{signedOf, pickZ}
+use Rattle.packer.specs.Numbers.{signedOf, unsignedOf, pickZ}
 
 minus-one : (n : ℕ) → negsuc 0 -ℤ pos n ≡ negsuc n
 minus-one zero = refl
@@ -53,3 +53,48 @@ module _ (z : ℤ) (n : ℕ) (h : mag z < 2 ^ 31) (k : n < 65536) (e : z ≡ sig
 
   pub as-i16 : toZ w16 (ofZ w16 (toZ w32 (ofZ w32 z))) ≡ signedOf 65536 n
   as-i16 = rw (as-i32 z (signedOf 65536 n) h e) (toZ-ofZ w16 (signedOf 65536 n) (record { sfits = size 32768 n k }))
+
+-- ---- the bits of a signed number, by way of -1 - v where it is negative
+from-minus-one : (n : ℕ) → negsuc 0 -ℤ negsuc n ≡ pos n
+from-minus-one n = rw (le-ltb (suc n) 1 (omega arith)) (ap pos (omega arith))
+
+clash : {X : Type 0} → _≡_ {A = Bool} false true → X
+clash p = absurd (let o : _≡_ {A = ℕ} 0 1 = cc in omega arith)
+
+-- v below 0
+module _ (v : ℤ) (f : SFits w32 v) (t : ltZ (toZ w32 (ofZ w32 v)) (pos 0) ≡ true) where
+  negative : v ≡ negsuc (mag v)
+  negative = go v f t
+    where
+      go : (v : ℤ) → SFits w32 v → ltZ (toZ w32 (ofZ w32 v)) (pos 0) ≡ true → v ≡ negsuc (mag v)
+      go (pos n) f t = clash (sym (le-ltb n 0 (omega arith)) ∙ (rw (toZ-ofZ w32 (pos n) f) at t))
+      go (negsuc n) f t = refl
+
+  pub under : negsuc 0 -ℤ toZ w32 (ofZ w32 v) ≡ pos (mag v)
+  under = ap (λ (z : ℤ). negsuc 0 -ℤ z) (toZ-ofZ w32 v f ∙ negative) ∙ from-minus-one (mag v)
+
+  pub back : toZ w32 (ofZ w32 (negsuc 0 -ℤ toZ w32 (ofZ w32 v))) ≡ pos (mag v)
+  back = rw under (toZ-ofZ w32 (pos (mag v)) (record { sfits = f .sfits }))
+
+  pub flipped : (last : ℕ) → last - mag v ≡ unsignedOf (last + 1) v
+  unfolding unsignedOf
+  flipped last = let e : last - mag v ≡ last + 1 - suc (mag v) = omega arith in e ∙ sym (ap (unsignedOf (last + 1)) negative)
+
+-- v at least 0
+pub over : (v : ℤ) → SFits w32 v → ltZ (toZ w32 (ofZ w32 v)) (pos 0) ≡ false → (all : ℕ) → toZ w32 (ofZ w32 v) ≡ pos (unsignedOf all v)
+unfolding unsignedOf
+over (pos n) f t all = toZ-ofZ w32 (pos n) f
+over (negsuc n) f t all = clash (sym (rw (toZ-ofZ w32 (negsuc n) f) at t))
+
+pub over-small : (v : ℤ) → SFits w32 v → ltZ (toZ w32 (ofZ w32 v)) (pos 0) ≡ false → (all : ℕ) → unsignedOf all v < 2 ^ 32
+unfolding unsignedOf
+over-small (pos n) f t all = omega (arith, f .sfits)
+over-small (negsuc n) f t all = clash (sym (rw (toZ-ofZ w32 (negsuc n) f) at t))
+
+-- ---- an i16 as an i32
+module _ (v : ℤ) (f : SFits w16 v) where
+  pub widened-fits : SFits w32 (toZ w16 (ofZ w16 v))
+  widened-fits = rw (toZ-ofZ w16 v f) (record { sfits = omega (arith, f .sfits) })
+
+  pub widened : toZ w32 (ofZ w32 (toZ w16 (ofZ w16 v))) ≡ v
+  widened = rw (toZ-ofZ w16 v f) (toZ-ofZ w32 v (record { sfits = omega (arith, f .sfits) }))

@@ -1,12 +1,16 @@
 -- Reading at a position of a slice, document 01, "The envelope": "A read past the end of the slice is 1."
 -- Promises about the enums that the readers answer go through the maps at the end. Assumes nothing.
+use mathlib.Core.Path.{_≡_}
 use Prim.Native.Nat.{ℕ, _+_, _^_, _<_}
 use mathlib.Core.Bool.{Bool, true, false}
 use mathlib.Core.List.{List}
 use lib.Dec.{leb}
 use lib.IntN.{ℤ}
+use lib.Ieee as Ieee
+use lib.Ieee.{Float, binary32}
 use lib.ListN.{length, take, drop, replicate}
 use Rattle.refusals.specs.Refusals.{Answer, given, refused, decodeRefusal, incompleteData}
+use Rattle.floats.specs.Numbers.{readingOf}
 use Rattle.packer.specs.Numbers.{beAt, signedOf}
 use Rattle.packer.specs.declared.UnpackedU8.{UnpackedU8}
 use Rattle.packer.specs.declared.UnpackedU8.the-variants as u8
@@ -18,6 +22,11 @@ use Rattle.packer.specs.declared.UnpackedI16.{UnpackedI16}
 use Rattle.packer.specs.declared.UnpackedI16.the-variants as i16
 use Rattle.packer.specs.declared.UnpackedI32.{UnpackedI32}
 use Rattle.packer.specs.declared.UnpackedI32.the-variants as i32
+use Rattle.packer.specs.declared.UnpackedF32.{UnpackedF32}
+use Rattle.packer.specs.declared.UnpackedF32.the-variants as f32
+use Rattle.packer.specs.declared.Consumed.{Consumed}
+use Rattle.packer.specs.declared.Consumed.the-variants as c
+use Rattle.packer.specs.declared.UnpackedUuid.{UnpackedUuid}
 
 abbrev pub pick : {A : Type 0} → Bool → A → A → A
 pick true a b = a
@@ -34,6 +43,14 @@ unsignedAt width s at = readAt width (beAt s at width) s at
 -- a signed one
 abbrev pub signedAt : ℕ → List ℕ → ℕ → Answer (ℤ × ℕ)
 signedAt width s at = readAt width (signedOf (256 ^ width) (beAt s at width)) s at
+
+-- hS and wS, a signed number over a scale
+abbrev pub scaledAt : ℕ → Float → List ℕ → ℕ → Answer (Float × ℕ)
+scaledAt width scale s at = readAt width (readingOf (signedOf (256 ^ width) (beAt s at width)) scale) s at
+
+-- F, a binary32 by its bits
+abbrev pub floatAt : List ℕ → ℕ → Answer (Float × ℕ)
+floatAt s at = readAt 4 (Ieee.ofBits binary32 (beAt s at 4)) s at
 
 abbrev pub unpackedU8 : UnpackedU8 → Answer (ℕ × ℕ)
 unpackedU8 (u8.Got value next) = given (value, next)
@@ -54,6 +71,26 @@ unpackedI16 (i16.Refused e) = refused (decodeRefusal e)
 abbrev pub unpackedI32 : UnpackedI32 → Answer (ℤ × ℕ)
 unpackedI32 (i32.Got value next) = given (value, next)
 unpackedI32 (i32.Refused e) = refused (decodeRefusal e)
+
+abbrev pub unpackedF32 : UnpackedF32 → Answer (Float × ℕ)
+unpackedF32 (f32.Got value next) = given (value, next)
+unpackedF32 (f32.Refused e) = refused (decodeRefusal e)
+
+abbrev pub consumed : Consumed → Answer ℕ
+consumed (c.To next) = given next
+consumed (c.Refused e) = refused (decodeRefusal e)
+
+-- so many bytes as they stand: where they end, or IncompleteData
+unfoldable pub consumeAt : ℕ → List ℕ → ℕ → Answer ℕ
+consumeAt width s at = pick (leb (at + width) (length s)) (given (at + width)) (refused incompleteData)
+
+-- "12 uuid bytes"; zeros on a refusal
+unfoldable pub uuidAt : List ℕ → ℕ → List ℕ
+uuidAt s at = pick (leb (at + 12) (length s)) (take 12 (drop at s)) (replicate 12 0)
+
+pub record UuidAt (s : List ℕ) (at : ℕ) (r : UnpackedUuid) : Type 0 where
+  pub answer : consumed (r .answer) ≡ consumeAt 12 s at
+  pub bytes : r .bytes ≡ uuidAt s at
 
 -- a number that was read lies below a bound
 abbrev pub NumberBelow : ℕ → UnpackedU32 → Type 0

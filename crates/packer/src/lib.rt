@@ -3,9 +3,13 @@
 ghost use mathlib.Core.Path.{_≡_};
 ghost use Prim.Native.Nat.{_+_, _*_, _≤_, _<_, _^_};
 ghost use lib.ListN.{length};
-ghost use Rattle.packer.specs.Numbers.{beAt, signedOf};
-ghost use Rattle.packer.specs.Reading.{unsignedAt, signedAt, unpackedU8, unpackedU16, unpackedU32, unpackedI16, unpackedI32, NumberBelow};
+ghost use lib.Signed.{mag};
+ghost use Rattle.floats.specs.Numbers.{writingOf};
+ghost use Rattle.packer.specs.Numbers.{beAt, bigEndian, signedOf, unsignedOf};
+ghost use Rattle.packer.specs.Reading.{unsignedAt, signedAt, unpackedU8, unpackedU16, unpackedU32, unpackedI16, unpackedI32, unpackedF32, scaledAt, floatAt, NumberBelow, UuidAt};
+ghost use Rattle.packer.specs.Writing.{written, Packs};
 use refusals::DecodeError;
+use refusals::EncodeError;
 
 // What a reader answers: the value and the position after it, or the refusal.
 pub enum UnpackedU8 {
@@ -35,6 +39,18 @@ pub enum UnpackedI32 {
 
 pub enum UnpackedF32 {
     Got(f32, usize),
+    Refused(DecodeError),
+}
+
+// A variant holds no array, so the bytes stand beside the answer; they are zeros on a refusal.
+pub struct UnpackedUuid {
+    pub answer: Consumed,
+    pub bytes: [u8; 12],
+}
+
+// The position after what was read, or the refusal.
+pub enum Consumed {
+    To(usize),
     Refused(DecodeError),
 }
 
@@ -126,4 +142,143 @@ pub fn unpack_u8(buf: &[u8], pos: usize) -> UnpackedU8
         UnpackedU32::Got(number, next) => UnpackedU8::Got(number as u8, next),
         UnpackedU32::Refused(e) => UnpackedU8::Refused(e),
     }
+}
+
+// A signed 32-bit number over a scale: wS of document 01, "Reply fields".
+pub fn unpack_f32(buf: &[u8], pos: usize, scale: f32) -> UnpackedF32
+    ensures { λ r. ⌜ unpackedF32 r ≡ scaledAt 4 scale (now (buf .entry)) pos ⌝ }
+{
+    match unpack_i32(buf, pos) {
+        UnpackedI32::Got(raw, next) => UnpackedF32::Got(floats::scaled(raw, scale), next),
+        UnpackedI32::Refused(e) => UnpackedF32::Refused(e),
+    }
+}
+
+// A signed 16-bit number over a scale: hS.
+pub fn unpack_f16(buf: &[u8], pos: usize, scale: f32) -> UnpackedF32
+    ensures { λ r. ⌜ unpackedF32 r ≡ scaledAt 2 scale (now (buf .entry)) pos ⌝ }
+{
+    match unpack_i16(buf, pos) {
+        UnpackedI16::Got(raw, next) => UnpackedF32::Got(floats::scaled(raw as i32, scale), next),
+        UnpackedI16::Refused(e) => UnpackedF32::Refused(e),
+    }
+}
+
+// A binary32 by its bits: F.
+pub fn unpack_f32_auto(buf: &[u8], pos: usize) -> UnpackedF32
+    ensures { λ r. ⌜ unpackedF32 r ≡ floatAt (now (buf .entry)) pos ⌝ }
+{
+    match unpack_u32(buf, pos) {
+        UnpackedU32::Got(bits, next) => UnpackedF32::Got(floats::f32_from_bits(bits), next),
+        UnpackedU32::Refused(e) => UnpackedF32::Refused(e),
+    }
+}
+
+pub fn unpack_uuid(buf: &[u8], pos: usize) -> UnpackedUuid
+    ensures { λ r. ⌜ UuidAt (now (buf .entry)) pos r ⌝ }
+{
+    let len = buf.len();
+    if len < 12 {
+        return UnpackedUuid {
+            answer: Consumed::Refused(DecodeError::IncompleteData),
+            bytes: [0u8; 12],
+        };
+    }
+    if len - 12 < pos {
+        return UnpackedUuid {
+            answer: Consumed::Refused(DecodeError::IncompleteData),
+            bytes: [0u8; 12],
+        };
+    }
+    let mut bytes = [0u8; 12];
+    let next = pos + 12;
+    bytes::copy(&buf[pos..next], &mut bytes);
+    UnpackedUuid {
+        answer: Consumed::To(next),
+        bytes,
+    }
+}
+
+// What a writer answers: the position after what it wrote, or the refusal.
+pub enum Packed {
+    Next(usize),
+    Refused(EncodeError),
+}
+
+// Writes the last `width` bytes of the number at `pos`, the lowest first, since each is what a
+// division leaves.
+fn put_be(buf: &mut [u8], pos: usize, width: usize, number: u32)
+    requires { ⌜ pos + width ≤ length (now buf) ⌝ }
+    ensures { λ _. ⌜ now (buf .exit) ≡ written (now (buf .entry)) pos (bigEndian width number) ⌝ }
+{
+    let mut k = width;
+    let mut rest = number;
+    while 0 < k {
+        k -= 1;
+        buf[pos + k] = (rest % 256) as u8;
+        rest = rest / 256;
+    }
+}
+
+// The same where there is room, and nothing where there is none.
+fn pack_be(buf: &mut [u8], pos: usize, width: usize, number: u32) -> Packed
+    ensures { λ r. ⌜ Packs (bigEndian width number) (now (buf .entry)) pos r (now (buf .exit)) ⌝ }
+{
+    let len = buf.len();
+    if len < width {
+        return Packed::Refused(EncodeError::BufferTooSmall);
+    }
+    if len - width < pos {
+        return Packed::Refused(EncodeError::BufferTooSmall);
+    }
+    put_be(buf, pos, width, number);
+    Packed::Next(pos + width)
+}
+
+// The bits of a signed number as an unsigned one; `last` is the largest of that width.
+fn unsigned(last: u32, value: i32) -> u32
+    requires { ⌜ mag value ≤ last ⌝ }
+    ensures { λ r. ⌜ r ≡ unsignedOf (last + 1) value ⌝ }
+{
+    if value < 0 {
+        return last - ((-1 - value) as u32);
+    }
+    value as u32
+}
+
+pub fn pack_u32(buf: &mut [u8], pos: usize, value: u32) -> Packed
+    ensures { λ r. ⌜ Packs (bigEndian 4 value) (now (buf .entry)) pos r (now (buf .exit)) ⌝ }
+{
+    pack_be(buf, pos, 4, value)
+}
+
+pub fn pack_i32(buf: &mut [u8], pos: usize, value: i32) -> Packed
+    ensures { λ r. ⌜ Packs (bigEndian 4 (unsignedOf (256 ^ 4) value)) (now (buf .entry)) pos r (now (buf .exit)) ⌝ }
+{
+    pack_be(buf, pos, 4, unsigned(4294967295, value))
+}
+
+pub fn pack_u16(buf: &mut [u8], pos: usize, value: u16) -> Packed
+    ensures { λ r. ⌜ Packs (bigEndian 2 value) (now (buf .entry)) pos r (now (buf .exit)) ⌝ }
+{
+    pack_be(buf, pos, 2, value as u32)
+}
+
+pub fn pack_i16(buf: &mut [u8], pos: usize, value: i16) -> Packed
+    ensures { λ r. ⌜ Packs (bigEndian 2 (unsignedOf (256 ^ 2) value)) (now (buf .entry)) pos r (now (buf .exit)) ⌝ }
+{
+    pack_be(buf, pos, 2, unsigned(65535, value as i32))
+}
+
+pub fn pack_u8(buf: &mut [u8], pos: usize, value: u8) -> Packed
+    ensures { λ r. ⌜ Packs (bigEndian 1 value) (now (buf .entry)) pos r (now (buf .exit)) ⌝ }
+{
+    pack_be(buf, pos, 1, value as u32)
+}
+
+// A value times its scale, toward zero and held: document 01, "Numbers".
+pub fn pack_f32(buf: &mut [u8], pos: usize, value: f32, scale: f32) -> Packed
+    ensures { λ r. ⌜ Packs (bigEndian 4 (unsignedOf (256 ^ 4) (writingOf value scale))) (now (buf .entry)) pos r (now (buf .exit)) ⌝ }
+{
+    pack_i32(buf, pos, floats::unscaled(value, scale))
 }

@@ -45,9 +45,11 @@ loop-less c = omega arith
 
 loop-again : tie.Need-loop-again Inv-loop μ-loop
 unfolding beAt
-loop-again c =
-    (omega arith, rw add-one (cc),
-    rw (add-one, pow-suc) (omega (arith, c .before .shared-slice-known2 .given (c .before .before .before .before .before .args .pos + c .before .before .before .loop .k))))
+loop-again c = (
+  omega arith,
+  rw add-one (cc),
+  rw (add-one, pow-suc) (omega (arith, c .before .shared-slice-known2 .given (c .before .before .before .before .before .args .pos + c .before .before .before .loop .k))),
+)
 
 returns : tie.Need-returns Inv-loop μ-loop
 returns c =

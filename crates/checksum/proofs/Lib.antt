@@ -1,0 +1,6 @@
+pub mod CheckValue
+pub mod Division
+pub mod Linear
+pub mod Remainder
+pub mod Turns
+pub mod Xor

@@ -1,0 +1,6 @@
+pub mod NotANumber
+pub mod Held
+pub mod Rounding
+pub mod Reading
+pub mod Scales
+pub mod Samples
