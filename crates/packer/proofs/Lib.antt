@@ -1,3 +1,4 @@
 pub mod Complement
 pub mod Places
 pub mod Writes
+pub mod Nearness

@@ -224,11 +224,11 @@ fn put_be(buf: &mut [u8], pos: usize, width: usize, number: u32)
 fn pack_be(buf: &mut [u8], pos: usize, width: usize, number: u32) -> Packed
     ensures { λ r. ⌜ Packs (bigEndian width number) (now (buf .entry)) pos r (now (buf .exit)) ⌝ }
 {
-    let len = buf.len();
-    if len < width {
+    let room = buf.len();
+    if room < width {
         return Packed::Refused(EncodeError::BufferTooSmall);
     }
-    if len - width < pos {
+    if room - width < pos {
         return Packed::Refused(EncodeError::BufferTooSmall);
     }
     put_be(buf, pos, width, number);

@@ -1,0 +1,4 @@
+pub mod Scanning
+pub mod Places
+pub mod Holding
+pub mod Prefix

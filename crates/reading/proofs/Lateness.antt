@@ -1,0 +1,95 @@
+-- A good frame that no earlier frame of the reading overlaps is given in time. Assumes nothing.
+use mathlib.Core.Path.{_≡_, sym, ap, _∙_, subst}
+use mathlib.Core.List.{List, [], _∷_, _++_, append-assoc}
+use Prim.Native.Nat.{ℕ, zero, suc, _+_, _-_, _≤_}
+use native.Mathlib.Omega.{arith}
+use native.Mathlib.Nat.{zero-add}
+use lib.ListN.{length, take, drop, length-drop, take-append-drop}
+use lib.Seq.{drop-drop, drop-append-le, take-append-le}
+use Rattle.reading.specs.Reading.{takes, notYet, movesOn, Judge, Given, Steady, Bounded, readingFrom, reading}
+use Rattle.reading.specs.Lateness.{Settled, TakenIn, NoneOver, GivenAt}
+use Rattle.reading.proofs.Turns.{by-reading, at-good-frame, at-noise, good-told, good-no-noise}
+use Rattle.reading.proofs.Frames.{each-front}
+use Rattle.reading.proofs.Joined.{given-front, good-stands}
+
+module _ {R : Type 0} (judge : Judge R) (steady : Steady judge) where
+  -- With a bound, the bytes before p are settled as soon as bound - 1 bytes counted from the one at p have been taken in.
+  pub late : (bound : ℕ) → Bounded judge bound → (xs : List ℕ) (p : ℕ) → TakenIn bound p xs → Settled judge xs p
+  late bound bounded xs p h q j = bounded .told (drop q xs) (rw (length-drop q xs) (omega arith))
+
+  -- what is settled stays so from m bytes further on
+  settled-on : (m q : ℕ) (l : List ℕ) → m ≤ q → Settled judge l q → Settled judge (drop m l) (q - m)
+  settled-on m q l h s j k = subst (λ (x : List ℕ). judge x ≡ notYet → ⊥) (sym (drop-drop j m l)) (s (m + j) (omega arith))
+
+  good-on : (m q : ℕ) (l : List ℕ) (n : ℕ) (r : R) → m ≤ q → judge (drop q l) ≡ takes n r → judge (drop (q - m) (drop m l)) ≡ takes n r
+  good-on m q l n r h e =
+      let k : m + (q - m) ≡ q = omega arith in
+      ap judge (drop-drop (q - m) m l ∙ ap (λ (j : ℕ). drop j l) k) ∙ e
+
+  module _ (p n : ℕ) (r : R) where
+    -- what is shown of the frames given of a list l that starts at `place`: the frame stands q bytes into l, and so at p
+    abbrev Claim : ℕ → List ℕ → List (Given R) → Type 0
+    Claim place l given = (q : ℕ) → place + q ≡ p → judge (drop q l) ≡ takes n r → Settled judge l q → NoneOver p given → GivenAt p n r given
+
+    at-stop : (place : ℕ) (l : List ℕ) (given : List (Given R)) → judge l ≡ notYet → Claim place l given
+    at-stop place l given e zero k good s h = absurd (good-told judge steady l n r good e)
+    at-stop place l given e (suc q) k good s h = absurd (s zero (omega arith) e)
+
+    behind-earlier : (g : Given R) (given : List (Given R)) → g .place + g .size ≤ p → GivenAt p n r given → GivenAt p n r (g ∷ given)
+    behind-earlier g given h a = record { before = g ∷ a .before; after = a .after; exactly = ap (λ (x : List (Given R)). g ∷ x) (a .exactly); clear = (h, a .clear) }
+
+    at-frame : (place : ℕ) (l : List ℕ) (m : ℕ) (t : R) (given : List (Given R)) → judge l ≡ takes m t
+        → Claim (place + m) (drop m l) given → Claim place l (record { place = place; size = m; reply = t } ∷ given)
+    at-frame place l m t given e ih zero k good s h =
+        let at : place ≡ p = omega arith in
+        let size : m ≡ n = cc in
+        let reply : t ≡ r = cc in
+        record { before = []; after = given; exactly = λ i. record { place = at i; size = size i; reply = reply i } ∷ given; clear = tt }
+    at-frame place l m t given e ih (suc q) k good s h =
+        let ends : place + m ≤ p = h .0 (omega arith) in
+        behind-earlier _ given ends (ih (suc q - m) (omega arith) (good-on m (suc q) l n r (omega arith) good) (settled-on m (suc q) l (omega arith) s) (h .1))
+
+    past-noise : (place : ℕ) (l : List ℕ) (given : List (Given R)) → judge l ≡ movesOn → Claim (place + 1) (drop 1 l) given → Claim place l given
+    past-noise place l given e ih zero k good s h = absurd (good-no-noise judge steady l n r good e)
+    past-noise place l given e ih (suc q) k good s h =
+        ih (suc q - 1) (omega arith) (good-on 1 (suc q) l n r (omega arith) good) (settled-on 1 (suc q) l (omega arith) s) h
+
+    claim : (place : ℕ) (l : List ℕ) → Claim place l (readingFrom judge place l .given)
+    claim =
+        by-reading judge steady (λ place l. Claim place l (readingFrom judge place l .given))
+        (λ place l e. at-stop place l _ e)
+        (λ place l m t e ih. rw (at-good-frame judge steady place l m t e) (at-frame place l m t _ e ih))
+        (λ place l e ih. rw (at-noise judge steady place l e) (past-noise place l _ e ih))
+
+  -- A good frame is given exactly where it stands, if every byte before it is settled and no earlier frame of the reading reaches over its first byte.
+  pub given-where-settled : (xs : List ℕ) (p n : ℕ) (r : R) → judge (drop p xs) ≡ takes n r → Settled judge xs p
+      → NoneOver p (reading judge xs .given) → GivenAt p n r (reading judge xs .given)
+  given-where-settled xs p n r good s h = claim p n r 0 xs p (zero-add p) good s h
+
+  -- What was given stays given when bytes are appended.
+  pub given-stays : (xs ys : List ℕ) (p n : ℕ) (r : R) → GivenAt p n r (reading judge xs .given) → GivenAt p n r (reading judge (xs ++ ys) .given)
+  given-stays xs ys p n r a =
+      let f = given-front judge steady xs ys in
+      record { before = a .before; after = a .after ++ f .0; exactly = f .1 ∙ ap (λ (x : List (Given R)). x ++ f .0) (a .exactly) ∙ append-assoc (a .before) _ (f .0); clear = a .clear }
+
+  -- A good frame of the uncut stream xs ++ ys is one for xs as soon as its own last byte has been taken in.
+  pub good-in-front : (xs ys : List ℕ) (p n : ℕ) (r : R) → judge (take n (drop p (xs ++ ys))) ≡ takes n r → p + n ≤ length xs → judge (drop p xs) ≡ takes n r
+  good-in-front xs ys p n r good k =
+      let room : n ≤ length (drop p xs) = rw (length-drop p xs) (omega arith) in
+      let same : take n (drop p (xs ++ ys)) ≡ take n (drop p xs) = ap (take n) (drop-append-le p xs ys (omega arith)) ∙ take-append-le n (drop p xs) ys room in
+      ap judge (sym (take-append-drop n (drop p xs)))
+      ∙ good-stands judge steady (take n (drop p xs)) (drop n (drop p xs)) n r (ap judge (sym same) ∙ good)
+
+  -- A good frame of n bytes stands at p of the uncut stream xs ++ ys, and no earlier frame of the reading of that stream reaches over its first
+  -- byte. Once its own last byte has been taken in with xs, and every byte before it is settled, the reading of xs gives it.
+  pub given-once-settled : (xs ys : List ℕ) (p n : ℕ) (r : R) → judge (take n (drop p (xs ++ ys))) ≡ takes n r → NoneOver p (reading judge (xs ++ ys) .given)
+      → p + n ≤ length xs → Settled judge xs p → GivenAt p n r (reading judge xs .given)
+  given-once-settled xs ys p n r good h k s =
+      let f = given-front judge steady xs ys in
+      given-where-settled xs p n r (good-in-front xs ys p n r good k) s (each-front _ (reading judge xs .given) (f .0) (subst (NoneOver p) (f .1) h))
+
+  -- How late is late: with a bound this is so once bound - 1 bytes counted from its first, or its own last byte if that is later, have been
+  -- taken in.
+  pub given-in-time : (bound : ℕ) → Bounded judge bound → (xs ys : List ℕ) (p n : ℕ) (r : R) → judge (take n (drop p (xs ++ ys))) ≡ takes n r
+      → NoneOver p (reading judge (xs ++ ys) .given) → p + n ≤ length xs → TakenIn bound p xs → GivenAt p n r (reading judge xs .given)
+  given-in-time bound bounded xs ys p n r good h k t = given-once-settled xs ys p n r good h k (late bound bounded xs p t)

@@ -1,0 +1,114 @@
+-- The reading of a finite stream, over any judge of bytes. Document 01, "The stream": "at a position, a good frame is given and
+-- passed whole; where `decode` answers 1 the reading stops; otherwise it moves on one byte." Nothing here knows a frame: the judge
+-- does, and R is what it replies. Assumes nothing.
+use mathlib.Core.Path.{_≡_}
+use mathlib.Core.List.{List, [], _∷_, _++_, map}
+use Prim.Native.Nat.{ℕ, zero, suc, _+_, _-_, _<_, _≤_}
+use lib.ListN.{length, drop}
+
+-- what a judge says of the bytes from a position on
+pub data Verdict (R : Type 0) : Type 0 where
+  -- a good frame stands here: its size, and its reply
+  takes : ℕ → R → Verdict R
+  -- there are too few bytes to tell (`decode` answers 1)
+  notYet : Verdict R
+  -- no good frame starts here
+  movesOn : Verdict R
+
+abbrev pub Judge : Type 0 → Type 0
+Judge R = List ℕ → Verdict R
+
+-- what is asked of a judge
+pub record Steady {R : Type 0} (judge : Judge R) : Type 0 where
+  -- an answer other than "not yet" stands when bytes are appended
+  pub prefix : (xs ys : List ℕ) → (judge xs ≡ notYet → ⊥) → judge (xs ++ ys) ≡ judge xs
+  -- a good frame has a byte, and lies within the bytes judged
+  pub sized : (xs : List ℕ) (n : ℕ) (r : R) → judge xs ≡ takes n r → (0 < n) × (n ≤ length xs)
+  -- of no bytes nothing can be told
+  pub empty : judge [] ≡ notYet
+
+-- and, where a law says so, that `bound` bytes are always enough to tell
+pub record Bounded {R : Type 0} (judge : Judge R) (bound : ℕ) : Type 0 where
+  pub told : (xs : List ℕ) → bound ≤ length xs → judge xs ≡ notYet → ⊥
+
+-- a frame given: the place of its first byte in the stream, how many bytes it has, and its reply
+pub record Given (R : Type 0) : Type 0 where
+  pub place : ℕ
+  pub size : ℕ
+  pub reply : R
+
+-- what a reading gives, in order, and what it leaves unread
+pub record Reading (R : Type 0) : Type 0 where
+  pub given : List (Given R)
+  pub rest : List ℕ
+
+module _ {R : Type 0} where
+  -- the replies given, without their places
+  abbrev pub repliesOf : List (Given R) → List R
+  repliesOf given = map (λ g. g .reply) given
+
+  -- the bytes of the frames given, together
+  abbrev pub sizesOf : List (Given R) → ℕ
+  sizesOf [] = 0
+  sizesOf (g ∷ gs) = g .size + sizesOf gs
+
+  -- nothing is given, and l is left
+  abbrev pub stops : List ℕ → Reading R
+  stops l = record { given = []; rest = l }
+
+  -- g is given, and then what o gives
+  abbrev pub gives : Given R → Reading R → Reading R
+  gives g o = record { given = g ∷ o .given; rest = o .rest }
+
+  -- what was given first, and then what o gives
+  abbrev pub behind : List (Given R) → Reading R → Reading R
+  behind first o = record { given = first ++ o .given; rest = o .rest }
+
+  -- where the first unread byte stands, after the reading o of a list l that starts at `place`
+  abbrev pub unreadPlace : ℕ → List ℕ → Reading R → ℕ
+  unreadPlace place l o = place + (length l - length (o .rest))
+
+  -- "at a position, a good frame is given and passed whole; where `decode` answers 1 the reading stops; otherwise it moves on one
+  -- byte": l are the bytes from the position on, `on n` is the reading n bytes further
+  abbrev pub readAt : Verdict R → ℕ → List ℕ → (ℕ → Reading R) → Reading R
+  readAt (takes n r) place l on = gives (record { place = place; size = n; reply = r }) (on n)
+  readAt notYet place l on = stops l
+  readAt movesOn place l on = on 1
+
+  module _ (judge : Judge R) where
+    -- so many turns of it. A turn that does not stop takes a byte or more, so the length of the list is turns enough
+    unfoldable pub readTurns : ℕ → ℕ → List ℕ → Reading R
+    readTurns zero place l = stops l
+    readTurns (suc k) place l = readAt (judge l) place l (λ n. readTurns k (place + n) (drop n l))
+
+    -- the reading of bytes the first of which stands at `place` of the stream
+    unfoldable pub readingFrom : ℕ → List ℕ → Reading R
+    readingFrom place l = readTurns (length l) place l
+
+    -- "the reading of a finite stream"
+    abbrev pub reading : List ℕ → Reading R
+    reading l = readingFrom 0 l
+
+    -- the reading o of a list l that starts at `place` goes on when more bytes come: they are appended to what o left
+    abbrev pub goesOn : ℕ → List ℕ → Reading R → List ℕ → Reading R
+    goesOn place l o more = behind (o .given) (readingFrom (unreadPlace place l o) (o .rest ++ more))
+
+    -- pieces read one after the other, each appended to what the reading before it left
+    unfoldable pub piecesFrom : ℕ → List ℕ → List (List ℕ) → Reading R
+    piecesFrom place left [] = stops left
+    piecesFrom place left (p ∷ ps) =
+        let o = readingFrom place (left ++ p) in
+        behind (o .given) (piecesFrom (unreadPlace place (left ++ p) o) (o .rest) ps)
+
+    unfoldable pub inPieces : List (List ℕ) → Reading R
+    inPieces pieces = piecesFrom 0 [] pieces
+
+    -- frames that stand in the stream: each is good at its place, and starts at `from` or where the one before it ends, or later
+    abbrev pub Stand : List ℕ → ℕ → List (Given R) → Type 0
+    Stand stream from [] = Unit
+    Stand stream from (g ∷ gs) = (from ≤ g .place) × (judge (drop (g .place) stream) ≡ takes (g .size) (g .reply)) × Stand stream (g .place + g .size) gs
+
+-- the uncut stream
+abbrev pub joined : List (List ℕ) → List ℕ
+joined [] = []
+joined (p ∷ ps) = p ++ joined ps

@@ -1,0 +1,5 @@
+pub mod Rows
+pub mod Passing
+pub mod Rule
+pub mod Parts
+pub mod Examples

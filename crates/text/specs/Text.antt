@@ -1,0 +1,37 @@
+-- Document 01, "Reply fields": the text of a name. Assumes nothing.
+use mathlib.Core.Path.{_≡_}
+use mathlib.Core.Bool.{Bool, false, cond}
+use mathlib.Core.List.{List, []}
+use Prim.Native.Nat.{ℕ, _-_, _≤_}
+use lib.ListN.{length, take}
+use Rattle.refusals.specs.Refusals.{Answer, given, refused}
+use Rattle.names.specs.Names.{nulWithin}
+use Rattle.text.specs.Utf8.{wellFormed}
+
+-- the first NUL of a name's bytes, by the place after it
+unfoldable pub firstNul : List ℕ → Answer ℕ
+firstNul name = nulWithin (length name) name 0
+
+-- "the part of the lent name bytes before the first NUL"
+unfoldable pub partBefore : Answer ℕ → List ℕ → List ℕ
+partBefore (given next) name = take (next - 1) name
+partBefore (refused why) name = []
+
+-- "No text .. holds when there is no NUL or the part is not well-formed UTF-8"
+unfoldable pub textBefore : Answer ℕ → List ℕ → Bool
+textBefore (given next) name = wellFormed (partBefore (given next) name)
+textBefore (refused why) name = false
+
+-- whether a name has a text, an empty one too
+unfoldable pub hasText : List ℕ → Bool
+hasText name = textBefore (firstNul name) name
+
+-- the text of a name; where it has none, "the part is then the empty one"
+unfoldable pub textOf : List ℕ → List ℕ
+textOf name = cond (hasText name) (partBefore (firstNul name) name) []
+
+-- a yes or no, and a number of bytes at the front of a name, that say its text
+pub record FoundText (name : List ℕ) (has : Bool) (size : ℕ) : Type 0 where
+  pub said : has ≡ hasText name
+  pub inside : size ≤ length name
+  pub part : take size name ≡ textOf name
