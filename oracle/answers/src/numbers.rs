@@ -1,0 +1,227 @@
+//! Numbers and names: what `Unpacker` and `Packer` do at a position, and the text of a name.
+//!
+//! Letters of the readers: b u8, s u16, u u32, t i16, i i32, h f16, w f32, F f32_auto, n and m a name of 39 and 47,
+//! d a uuid; their case is the scale's bits (four bytes), the position (one) and the slice. The answer is `given VALUE NEXT`
+//! or `refused NUMBER`; a float's value is its bits, `nan` for any NaN.
+//! Letters of the writers: B S U I u8 u16 u32 i32, W f32; their case is the scale's bits, the position, the slice's length and
+//! the value's bits (four bytes), and the slice holds A5 everywhere. The answer ends with what the slice then holds.
+//! T: the text of a name of 39 or 47 bytes, `text BYTES` or `none`.
+
+use crate::packer::{Packer, Unpacker};
+use crate::{Block, DecodeError, Random, hex, number};
+use vesc::{FwInfo, FwVersion, HwType, NrfFlags, QmlAppFlags, QmlHw};
+
+const SCALES: [f32; 14] = [
+    1.0, 10.0, 100.0, 1000.0, 10000.0, 100000.0, 1000000.0, -10.0, 0.0, -0.0, f32::INFINITY, f32::NAN, 1e-45, 3.4e38,
+];
+
+/// The whole numbers around every boundary.
+fn whole() -> Vec<i32> {
+    let mut all = vec![i32::MIN, i32::MIN + 1, i32::MAX, i32::MAX - 1, i32::MAX - 63, i32::MAX - 64, i32::MAX - 65];
+    for base in [0i32, 1 << 15, 1 << 16, 1 << 23, 1 << 24, 1 << 25, 1 << 30] {
+        for step in -3..=3 {
+            all.push(base + step);
+            all.push(-(base + step));
+        }
+    }
+    all
+}
+
+pub fn shown(x: f32) -> String {
+    if x.is_nan() { "nan".into() } else { format!("{:08x}", x.to_bits()) }
+}
+
+fn read(block: &mut Block, letter: u8, scale: f32, pos: usize, slice: &[u8]) {
+    let mut unpacker = Unpacker { buf: slice, pos };
+    let answer: Result<String, DecodeError> = match letter {
+        b'b' => unpacker.unpack_u8().map(|v| format!("{v:08x}")),
+        b's' => unpacker.unpack_u16().map(|v| format!("{v:08x}")),
+        b'u' => unpacker.unpack_u32().map(|v| format!("{v:08x}")),
+        b't' => unpacker.unpack_i16().map(|v| format!("{:08x}", v as i32)),
+        b'i' => unpacker.unpack_i32().map(|v| format!("{v:08x}")),
+        b'h' => unpacker.unpack_f16(scale).map(shown),
+        b'w' => unpacker.unpack_f32(scale).map(shown),
+        b'F' => unpacker.unpack_f32_auto().map(shown),
+        b'n' => unpacker.unpack_c_string::<39>().map(|v| hex(&v)),
+        b'm' => unpacker.unpack_c_string::<47>().map(|v| hex(&v)),
+        b'd' => unpacker.unpack_uuid().map(|v| hex(&v)),
+        _ => unreachable!(),
+    };
+    let answer = match answer {
+        Ok(value) => format!("given {value} {}", unpacker.pos),
+        Err(error) => format!("refused {}", number(&error)),
+    };
+    let mut case = scale.to_bits().to_be_bytes().to_vec();
+    case.push(pos as u8);
+    case.extend(slice);
+    block.case(letter, &case, &answer);
+}
+
+fn write(block: &mut Block, letter: u8, scale: f32, pos: usize, room: usize, value: u32) {
+    let mut slice = vec![0xA5u8; room];
+    let mut packer = Packer { buf: &mut slice, pos };
+    let answer = match letter {
+        b'B' => packer.pack_u8(value as u8),
+        b'S' => packer.pack_u16(value as u16),
+        b'U' => packer.pack_u32(value),
+        b'I' => packer.pack_i32(value as i32),
+        b'W' => packer.pack_f32(f32::from_bits(value), scale),
+        _ => unreachable!(),
+    };
+    let answer = match answer {
+        Ok(()) => format!("given {} {}", packer.pos, hex(packer.buf)),
+        Err(_) => format!("refused 5 {}", hex(packer.buf)),
+    };
+    let mut case = scale.to_bits().to_be_bytes().to_vec();
+    case.extend([pos as u8, room as u8]);
+    case.extend(value.to_be_bytes());
+    block.case(letter, &case, &answer);
+}
+
+fn text(block: &mut Block, name: &[u8]) {
+    let answer = if let Ok(hw_name) = <[u8; 39]>::try_from(name) {
+        let version = FwVersion {
+            major: 0,
+            minor: 0,
+            hw_name,
+            uuid: [0; 12],
+            pairing_done: false,
+            test_version_number: 0,
+            hw_type: HwType::Vesc,
+            custom_config_num: 0,
+            has_phase_filters: false,
+            qml_hw: QmlHw::None,
+            qml_app: QmlAppFlags::empty(),
+            nrf_flags: NrfFlags::empty(),
+            fw_name: [0; 39],
+            hw_crc: 0,
+        };
+        version.hw_name().map(|t| hex(t.as_bytes()))
+    } else {
+        let info = FwInfo {
+            major: 0,
+            minor: 0,
+            test_version_number: 0,
+            commit_hash: name.try_into().unwrap(),
+            user_commit_hash: [0; 47],
+        };
+        info.commit_hash().map(|t| hex(t.as_bytes()))
+    };
+    let answer = answer.map_or("none".to_string(), |t| format!("text {t}"));
+    block.case(b'T', name, &answer);
+}
+
+/// Unicode's table 3-7: the lowest and the highest byte at each place of each row.
+const ROWS: [&[(u8, u8)]; 9] = [
+    &[(0x00, 0x7F)],
+    &[(0xC2, 0xDF), (0x80, 0xBF)],
+    &[(0xE0, 0xE0), (0xA0, 0xBF), (0x80, 0xBF)],
+    &[(0xE1, 0xEC), (0x80, 0xBF), (0x80, 0xBF)],
+    &[(0xED, 0xED), (0x80, 0x9F), (0x80, 0xBF)],
+    &[(0xEE, 0xEF), (0x80, 0xBF), (0x80, 0xBF)],
+    &[(0xF0, 0xF0), (0x90, 0xBF), (0x80, 0xBF), (0x80, 0xBF)],
+    &[(0xF1, 0xF3), (0x80, 0xBF), (0x80, 0xBF), (0x80, 0xBF)],
+    &[(0xF4, 0xF4), (0x80, 0x8F), (0x80, 0xBF), (0x80, 0xBF)],
+];
+
+fn texts(block: &mut Block, random: &mut Random) {
+    let mut sequences: Vec<Vec<u8>> = vec![vec![]];
+    for row in ROWS {
+        let low: Vec<u8> = row.iter().map(|r| r.0).collect();
+        let high: Vec<u8> = row.iter().map(|r| r.1).collect();
+        for place in 0..row.len() {
+            for byte in [row[place].0.wrapping_sub(1), row[place].0, row[place].1, row[place].1.wrapping_add(1)] {
+                let mut one = low.clone();
+                one[place] = byte;
+                sequences.push(one);
+            }
+            // cut off, and with the last byte missing
+            sequences.push(high[..place].to_vec());
+        }
+        sequences.push(low);
+        sequences.push(high);
+    }
+    for room in [39usize, 47] {
+        for sequence in &sequences {
+            for front in [0, 5, room - 1 - sequence.len().min(room - 1)] {
+                let mut name = vec![b'a'; front];
+                name.extend(sequence);
+                name.resize(room, 0);
+                text(block, &name);
+            }
+        }
+        for length in 0..=room {
+            let mut name = vec![b'x'; length];
+            name.resize(room, 0);
+            text(block, &name);
+        }
+        for _ in 0..60 {
+            text(block, &random.bytes(room));
+        }
+    }
+}
+
+pub fn block() -> Block {
+    let mut block = Block::default();
+    let mut random = Random(0x5EED_0001);
+    for raw in whole() {
+        for scale in SCALES {
+            read(&mut block, b'w', scale, 0, &raw.to_be_bytes());
+        }
+    }
+    for raw in [0i16, 1, -1, 2, -2, 9, -9, 255, 256, 1234, -1234, 32766, 32767, -32767, -32768] {
+        for scale in SCALES {
+            read(&mut block, b'h', scale, 0, &raw.to_be_bytes());
+        }
+    }
+    let floats = [
+        0, 1, 2, 0x007F_FFFF, 0x0080_0000, 0x3F80_0000, 0x3FC0_0000, 0x7F7F_FFFF, 0x7F80_0000, 0x7F80_0001, 0x7FC0_0000, 0x7FFF_FFFF,
+    ];
+    for bits in floats {
+        for sign in [0u32, 0x8000_0000] {
+            read(&mut block, b'F', 1.0, 0, &(bits | sign).to_be_bytes());
+            for scale in SCALES {
+                write(&mut block, b'W', scale, 0, 4, bits | sign);
+            }
+        }
+    }
+    for whole in whole() {
+        for scale in &SCALES[..7] {
+            let value = whole as f32 / scale;
+            for bits in [value.to_bits().wrapping_sub(1), value.to_bits(), value.to_bits().wrapping_add(1)] {
+                write(&mut block, b'W', *scale, 1, 6, bits);
+            }
+        }
+        write(&mut block, b'I', 1.0, 0, 5, whole as u32);
+    }
+    for letter in *b"bsutihwFd" {
+        for room in 0..=14 {
+            for pos in 0..=room + 2 {
+                let slice = random.bytes(room);
+                read(&mut block, letter, 10.0, pos, &slice);
+            }
+        }
+    }
+    for letter in *b"BSUIW" {
+        for room in 0..=6 {
+            for pos in 0..=room + 2 {
+                let value = random.next() as u32;
+                write(&mut block, letter, 1000.0, pos, room, value);
+            }
+        }
+    }
+    for (letter, room) in [(b'n', 39usize), (b'm', 47)] {
+        for length in 0..=room + 1 {
+            // a name, a NUL, and bytes after it; then the same cut off before its NUL
+            let mut slice = vec![b'n'; length];
+            read(&mut block, letter, 1.0, 0, &slice);
+            slice.push(0);
+            slice.extend(random.bytes(9));
+            read(&mut block, letter, 1.0, 0, &slice);
+            read(&mut block, letter, 1.0, 3, &slice);
+            read(&mut block, letter, 1.0, slice.len() + 1, &slice);
+        }
+    }
+    texts(&mut block, &mut random);
+    block
+}
