@@ -2,3 +2,4 @@ pub mod Scanning
 pub mod Places
 pub mod Holding
 pub mod Prefix
+pub mod Unique

@@ -2,3 +2,4 @@ pub mod Complement
 pub mod Places
 pub mod Writes
 pub mod Nearness
+pub mod Unique

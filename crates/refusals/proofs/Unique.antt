@@ -1,0 +1,42 @@
+-- An answer is the only one: two errors with one refusal are the same, and so the maps that the promises go through lose nothing. Assumes nothing.
+use mathlib.Core.Path.{_≡_, refl, sym, ap, _∙_}
+use mathlib.Core.Bool.{cond}
+use lib.Dec.{eqb}
+use lib.ListN.{getD}
+use Rattle.refusals.specs.Refusals.{Refusal, Answer, given, refused, decodeRefusal, encodeRefusal}
+use Rattle.refusals.specs.declared.DecodeError.{DecodeError}
+use Rattle.refusals.specs.declared.DecodeError.the-variants.{IncompleteData, InvalidFrame, UnknownPacket, ChecksumMismatch}
+use Rattle.refusals.specs.declared.EncodeError.{EncodeError}
+use Rattle.refusals.specs.declared.EncodeError.the-variants.{BufferTooSmall, PayloadTooLong}
+
+-- a map with a way back tells its arguments apart
+pub told-apart : {A B : Type 0} (f : A → B) (back : B → A) → ((a : A) → back (f a) ≡ a) → (a b : A) → f a ≡ f b → a ≡ b
+told-apart f back same a b e = sym (same a) ∙ ap back e ∙ same b
+
+-- the error with a number, and with the values returned with it
+pub decodeBack : Refusal → DecodeError
+decodeBack r =
+    cond (eqb (r .number) 1) IncompleteData
+    (cond (eqb (r .number) 2) InvalidFrame
+    (cond (eqb (r .number) 3) (UnknownPacket (getD (r .values) 0 0)) (ChecksumMismatch (getD (r .values) 0 0) (getD (r .values) 1 0))))
+
+pub encodeBack : Refusal → EncodeError
+encodeBack r = cond (eqb (r .number) 5) BufferTooSmall PayloadTooLong
+
+pub decode-back : (e : DecodeError) → decodeBack (decodeRefusal e) ≡ e
+unfolding decodeBack
+decode-back IncompleteData = refl
+decode-back InvalidFrame = refl
+decode-back (UnknownPacket id) = refl
+decode-back (ChecksumMismatch expected actual) = refl
+
+pub encode-back : (e : EncodeError) → encodeBack (encodeRefusal e) ≡ e
+unfolding encodeBack
+encode-back BufferTooSmall = refl
+encode-back PayloadTooLong = refl
+
+pub decode-errors-apart : (a b : DecodeError) → decodeRefusal a ≡ decodeRefusal b → a ≡ b
+decode-errors-apart = told-apart decodeRefusal decodeBack decode-back
+
+pub encode-errors-apart : (a b : EncodeError) → encodeRefusal a ≡ encodeRefusal b → a ≡ b
+encode-errors-apart = told-apart encodeRefusal encodeBack encode-back
