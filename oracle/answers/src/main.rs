@@ -1,6 +1,6 @@
 //! Makes the stored cases and the Rust's answers to them, which our replay programs are held to.
 //!
-//!     answers BLOCK FOLDER     writes FOLDER/stdin (the cases) and FOLDER/stdout (the Rust's answers)
+//!     answers FOLDER BLOCK..     writes FOLDER/stdin (the cases) and FOLDER/stdout (the Rust's answers)
 //!
 //! A case is a letter, a length (16 bits, big-endian) and so many bytes. The answers are text, a line a case; each
 //! block's file says what stands in its lines. Everything is made from fixed seeds: the same files each time.
@@ -11,7 +11,10 @@
 mod packer;
 pub use vesc::{DecodeError, EncodeError};
 
+mod commands;
 mod numbers;
+mod replies;
+mod streams;
 
 /// The cases of a block and the answers to them.
 #[derive(Default)]
@@ -19,6 +22,9 @@ pub struct Block {
     pub cases: Vec<u8>,
     pub answers: String,
     pub count: usize,
+    /// Of the cases of `decode`: good frames, and those with a NaN in a field.
+    pub good: usize,
+    pub nans: usize,
 }
 
 impl Block {
@@ -54,6 +60,15 @@ impl Random {
     }
 }
 
+/// A digest of bytes or of a reply's words, which both sides work out alike.
+pub fn digest(bytes: &[u8]) -> u32 {
+    bytes.iter().fold(0, |sum, b| mixed(sum, *b as u32))
+}
+
+pub fn mixed(sum: u32, word: u32) -> u32 {
+    sum.wrapping_mul(16_777_619).wrapping_add(word)
+}
+
 pub fn hex(bytes: &[u8]) -> String {
     bytes.iter().map(|b| format!("{b:02x}")).collect()
 }
@@ -71,18 +86,27 @@ pub fn number(error: &DecodeError) -> u8 {
 
 fn main() {
     let args: Vec<String> = std::env::args().collect();
-    let [_, block, folder] = &args[..] else {
-        eprintln!("usage: answers BLOCK FOLDER");
+    let (Some(folder), true) = (args.get(1), args.len() > 2) else {
+        eprintln!("usage: answers FOLDER BLOCK..   the blocks: numbers commands replies streams");
         std::process::exit(2);
     };
-    let made = match block.as_str() {
-        "numbers" => numbers::block(),
-        _ => {
-            eprintln!("answers: no block {block}");
-            std::process::exit(2);
-        }
-    };
-    std::fs::write(format!("{folder}/stdin"), &made.cases).unwrap();
-    std::fs::write(format!("{folder}/stdout"), &made.answers).unwrap();
-    println!("{block}: {} cases", made.count);
+    let mut cases = vec![];
+    let mut answers = String::new();
+    for block in &args[2..] {
+        let made = match block.as_str() {
+            "numbers" => numbers::block(),
+            "commands" => commands::block(),
+            "replies" => replies::block(),
+            "streams" => streams::block(),
+            _ => {
+                eprintln!("answers: no block {block}");
+                std::process::exit(2);
+            }
+        };
+        println!("{block}: {} cases, {} good frames, {} of them with a NaN", made.count, made.good, made.nans);
+        cases.extend(made.cases);
+        answers.push_str(&made.answers);
+    }
+    std::fs::write(format!("{folder}/stdin"), &cases).unwrap();
+    std::fs::write(format!("{folder}/stdout"), &answers).unwrap();
 }

@@ -1,0 +1,3 @@
+pub mod Commands
+pub mod Encode
+pub mod Writes

@@ -1,0 +1,16 @@
+-- What the private functions that write promise each other, in the words of packer's contracts. Assumes nothing.
+use Prim.Native.Nat.{ℕ, _+_, _≤_}
+use mathlib.Core.List.{List}
+use lib.ListN.{length}
+use Rattle.packer.specs.Writing.{Packs}
+use Rattle.packer.specs.declared.Packed.{Packed}
+use Rattle.packer.specs.declared.Packed.the-variants.{Next, Refused}
+
+-- the place that a writer answered, 0 for a refusal
+abbrev pub placeOf : Packed → ℕ
+placeOf (Next place) = place
+placeOf (Refused e) = 0
+
+-- where there is room for the bytes at the place of l, they were written there, next is the place after them, and the slice came to be after
+abbrev pub Puts : List ℕ → List ℕ → ℕ → ℕ → List ℕ → Type 0
+Puts bytes l at next after = at + length bytes ≤ length l → Packs bytes l at (Next next) after

@@ -1,0 +1,23 @@
+// The first byte of each command and reply. Ports `CommandId` of src/command.rs. Assumes nothing.
+pub enum CommandId {
+    FwVersion = 0,
+    GetValues = 4,
+    SetDuty = 5,
+    SetCurrent = 6,
+    SetCurrentBrake = 7,
+    SetRpm = 8,
+    SetPos = 9,
+    SetHandbrake = 10,
+    Reboot = 29,
+    Alive = 30,
+    ForwardCan = 34,
+    GetValuesSelective = 50,
+    GetValuesSetupSelective = 51,
+    SetCurrentRel = 84,
+    SetOdometer = 110,
+    GetStats = 128,
+    ResetStats = 129,
+    Shutdown = 156,
+    FwInfo = 157,
+    MotorEstop = 159,
+}

@@ -1,0 +1,97 @@
+// The cases of `encode`: the command's place in a list, its number's bits, the buffer's length, the number
+// of hops, and the hops. The buffer holds A5 everywhere, so that what is not written shows.
+ghost use Prim.Native.Nat.{_<_};
+use crate::shows;
+use command::Command;
+use command::Encoded;
+use libc::STDOUT_FILENO;
+use packer::UnpackedF32;
+use packer::UnpackedI32;
+use packer::UnpackedU16;
+use packer::UnpackedU32;
+
+// What a command's number may be: the same four bytes in each of its forms.
+struct Number {
+    float: f32,
+    signed: i32,
+    bits: u32,
+}
+
+fn number_of(case: &[u8]) -> Number {
+    let bits = match packer::unpack_u32(case, 1) {
+        UnpackedU32::Got(bits, _) => bits,
+        UnpackedU32::Refused(_) => 0,
+    };
+    let signed = match packer::unpack_i32(case, 1) {
+        UnpackedI32::Got(signed, _) => signed,
+        UnpackedI32::Refused(_) => 0,
+    };
+    let float = floats::f32_from_bits(bits);
+    Number {
+        float,
+        signed,
+        bits,
+    }
+}
+
+fn length_at(case: &[u8], pos: usize) -> usize
+    ensures { λ r. ⌜ r < 65536 ⌝ }
+{
+    match packer::unpack_u16(case, pos) {
+        UnpackedU16::Got(length, _) => length as usize,
+        UnpackedU16::Refused(_) => 0,
+    }
+}
+
+fn plain(place: u8, n: Number) -> Command {
+    let half = (n.bits % 65536) as u16;
+    let first = n.bits % 2 == 1;
+    let second = n.bits / 2 % 2 == 1;
+    match place {
+        0 => Command::FwVersion,
+        1 => Command::GetValues,
+        2 => Command::SetDuty(n.float),
+        3 => Command::SetCurrent(n.float),
+        4 => Command::SetCurrentBrake(n.float),
+        5 => Command::SetRpm(n.signed),
+        6 => Command::SetPos(n.float),
+        7 => Command::SetHandbrake(n.float),
+        8 => Command::Reboot,
+        9 => Command::Alive,
+        10 => Command::GetValuesSelective(n.bits),
+        11 => Command::GetValuesSetupSelective(n.bits),
+        12 => Command::SetCurrentRel(n.float),
+        13 => Command::SetOdometer(n.bits),
+        14 => Command::GetStats(half),
+        15 => Command::ResetStats(first),
+        16 => Command::Shutdown(first, second),
+        17 => Command::FwInfo,
+        _ => Command::MotorEstop(half),
+    }
+}
+
+fn encoded(answer: Encoded, buf: &[u8]) {
+    match answer {
+        Encoded::Written(count) => {
+            shows::given();
+            io::print_decimal(STDOUT_FILENO, count as u64);
+        }
+        Encoded::Refused(e) => shows::refused(e.number()),
+    }
+    shows::word(shows::digest(buf));
+}
+
+pub(crate) fn case(case: &[u8]) {
+    if case.len() < 9 {
+        return;
+    }
+    let room = length_at(case, 5);
+    let sent = plain(case[0], number_of(case));
+    let mut space = shows::untouched();
+    if 1024 < room {
+        return;
+    }
+    let buf = &mut space[..room];
+    let answer = command::encode(sent, &case[9..], buf);
+    encoded(answer, buf);
+}

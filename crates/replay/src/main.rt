@@ -1,0 +1,52 @@
+// Replays stored cases: prints our own answer to each, in the form in which oracle/answers printed the
+// Rust's. `rt ci` holds the two to be the same. A case is a letter, a length (16 bits, big-endian) and so
+// many bytes; oracle/answers/src says what each letter asks.
+mod commands;
+mod reads;
+mod shows;
+mod writes;
+
+use libc::STDIN_FILENO;
+
+// Reads until `into` is full; no where the input ends first.
+fn filled(into: &mut [u8]) -> bool {
+    io::read_full(STDIN_FILENO, into) == into.len()
+}
+
+fn answer(letter: u8, case: &[u8]) {
+    shows::letter(letter);
+    match letter {
+        b'c' => commands::case(case),
+        b'T' => reads::text(case),
+        b'B' | b'S' | b'U' | b'I' | b'W' => writes::case(letter, case),
+        _ => reads::case(letter, case),
+    }
+    shows::line_end();
+}
+
+// One case, or no where the input is at its end.
+fn one() -> bool {
+    let mut head = [0u8; 3];
+    if !filled(&mut head) {
+        return false;
+    }
+    let length = shows::wide(head[1]) * 256 + shows::wide(head[2]);
+    let mut space = io::buffer();
+    if 4096 < length {
+        return false;
+    }
+    let case = &mut space[..length];
+    if !filled(case) {
+        return false;
+    }
+    answer(head[0], case);
+    true
+}
+
+// The input says when it ends; the count only makes that the loop's end can be proved.
+fn main() {
+    let mut turns = u64::MAX;
+    while turns > 0 && one() {
+        turns -= 1;
+    }
+}

@@ -1,0 +1,153 @@
+//! Commands out: `encode`, of every command, behind hops, into buffers of every length.
+//!
+//! A case, letter c: the command's place in the list below, its number's bits (four bytes; two flags are the lowest two bits),
+//! the buffer's length (two bytes), the number of hops (two bytes), and the hops. The buffer holds A5 everywhere.
+//! The answer: `given COUNT` or `refused NUMBER`, and a digest of the whole buffer after the call. Where the Rust refuses, its buffer is
+//! not compared and the untouched one stands in; where the payload is over 255 bytes, `refused 6` stands for its wrapped length (document 01).
+
+use crate::{Block, Random, digest};
+use vesc::{Command, StatsMask, ValuesMask, ValuesSetupMask};
+
+pub const COMMANDS: u8 = 19;
+
+fn command(place: u8, bits: u32) -> Command<'static> {
+    let float = f32::from_bits(bits);
+    match place {
+        0 => Command::FwVersion,
+        1 => Command::GetValues,
+        2 => Command::SetDuty(float),
+        3 => Command::SetCurrent(float),
+        4 => Command::SetCurrentBrake(float),
+        5 => Command::SetRpm(bits as i32),
+        6 => Command::SetPos(float),
+        7 => Command::SetHandbrake(float),
+        8 => Command::Reboot,
+        9 => Command::Alive,
+        10 => Command::GetValuesSelective(ValuesMask::from_bits_retain(bits)),
+        11 => Command::GetValuesSetupSelective(ValuesSetupMask::from_bits_retain(bits)),
+        12 => Command::SetCurrentRel(float),
+        13 => Command::SetOdometer(bits),
+        14 => Command::GetStats(StatsMask::from_bits_retain(bits as u16)),
+        15 => Command::ResetStats(bits & 1 == 1),
+        16 => Command::Shutdown(bits & 1 == 1, bits & 2 == 2),
+        17 => Command::FwInfo,
+        18 => Command::MotorEstop(bits as u16),
+        _ => unreachable!(),
+    }
+}
+
+fn plain_length(place: u8) -> usize {
+    match place {
+        0 | 1 | 8 | 9 | 17 => 1,
+        15 => 2,
+        14 | 16 | 18 => 3,
+        _ => 5,
+    }
+}
+
+/// The command behind its hops: the first hop is the outermost ForwardCan.
+fn with_hops<T>(hops: &[u8], command: Command, run: &mut dyn FnMut(Command) -> T) -> T {
+    match hops.split_last() {
+        None => run(command),
+        Some((last, rest)) => with_hops(rest, Command::ForwardCan(*last, &command), run),
+    }
+}
+
+pub fn encode(block: &mut Block, place: u8, bits: u32, room: usize, hops: &[u8]) {
+    let untouched = vec![0xA5u8; room];
+    let answer = if 2 * hops.len() + plain_length(place) > 255 {
+        format!("refused 6 {:08x}", digest(&untouched))
+    } else {
+        let mut buffer = untouched.clone();
+        match with_hops(hops, command(place, bits), &mut |c| vesc::encode(c, &mut buffer)) {
+            Ok(count) => format!("given {count} {:08x}", digest(&buffer)),
+            Err(_) => format!("refused 5 {:08x}", digest(&untouched)),
+        }
+    };
+    let mut case = vec![place];
+    case.extend(bits.to_be_bytes());
+    case.extend((room as u16).to_be_bytes());
+    case.extend((hops.len() as u16).to_be_bytes());
+    case.extend(hops);
+    block.case(b'c', &case, &answer);
+}
+
+/// The bits that matter to a command's number.
+fn ends(place: u8) -> Vec<u32> {
+    match place {
+        2 | 3 | 4 | 6 | 7 | 12 => {
+            let scale = match place {
+                2 | 12 => 100000.0f32,
+                6 => 1000000.0,
+                _ => 1000.0,
+            };
+            let mut all: Vec<u32> = [0u32, 1, 0x007F_FFFF, 0x0080_0000, 0x3FC0_0000, 0x7F7F_FFFF, 0x7F80_0000, 0x7FC0_0000]
+                .iter()
+                .flat_map(|b| [*b, *b | 0x8000_0000])
+                .collect();
+            for whole in [i32::MAX, i32::MIN, 1 << 24, 1500, -1500, 1] {
+                let near = (whole as f32 / scale).to_bits();
+                all.extend([near - 1, near, near + 1]);
+            }
+            all
+        }
+        5 | 10 | 11 | 13 => vec![0, 1, u32::MAX, u32::MAX - 1, 0x7FFF_FFFF, 0x8000_0000, (-1500i32) as u32, 0x0123_4567],
+        14 | 18 => vec![0, 1, 0xFFFF, 0x8000, 0x1234],
+        15 | 16 => vec![0, 1, 2, 3],
+        _ => vec![0],
+    }
+}
+
+pub fn block() -> Block {
+    let mut block = Block::default();
+    let mut random = Random(0x5EED_0003);
+    for place in 0..COMMANDS {
+        for bits in ends(place) {
+            for count in [0usize, 1, 2] {
+                let hops = random.bytes(count);
+                let frame = 2 * count + plain_length(place) + 5;
+                encode(&mut block, place, bits, frame, &hops);
+                encode(&mut block, place, bits, frame + 1, &hops);
+            }
+        }
+        for count in [0usize, 1, 2, 124, 125, 126, 127, 128, 129, 300] {
+            let hops = random.bytes(count);
+            let bits = random.next() as u32;
+            let frame = 2 * count + plain_length(place) + 5;
+            let lengths: Vec<usize> = match count {
+                0..=2 => (0..=frame + 1).collect(),
+                _ => vec![0, 1, 2, 3, frame - 4, frame - 3, frame - 2, frame - 1, frame, frame + 1],
+            };
+            for room in lengths {
+                encode(&mut block, place, bits, room, &hops);
+            }
+        }
+    }
+    block
+}
+
+/// Fresh random cases.
+pub fn some(block: &mut Block, random: &mut Random, count: usize) {
+    for _ in 0..count {
+        let place = random.below(COMMANDS as usize) as u8;
+        let hops = match random.below(8) {
+            0..=3 => random.below(4),
+            4..=5 => random.below(40),
+            _ => 120 + random.below(12),
+        };
+        let hops = random.bytes(hops);
+        let frame = 2 * hops.len() + plain_length(place) + 5;
+        let room = match random.below(4) {
+            0 => random.below(frame + 8),
+            _ => frame + random.below(4),
+        };
+        let bits = match random.below(3) {
+            0 => random.next() as u32,
+            _ => {
+                let all = ends(place);
+                all[random.below(all.len())]
+            }
+        };
+        encode(block, place, bits, room, &hops);
+    }
+}
