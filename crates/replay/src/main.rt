@@ -3,6 +3,7 @@
 // many bytes; oracle/answers/src says what each letter asks.
 mod commands;
 mod reads;
+mod replies;
 mod shows;
 mod writes;
 
@@ -17,6 +18,7 @@ fn answer(letter: u8, case: &[u8]) {
     shows::letter(letter);
     match letter {
         b'c' => commands::case(case),
+        b'r' => replies::case(case),
         b'T' => reads::text(case),
         b'B' | b'S' | b'U' | b'I' | b'W' => writes::case(letter, case),
         _ => reads::case(letter, case),

@@ -14,7 +14,7 @@ use packer::UnpackedU16;
 use packer::UnpackedU32;
 
 // The bits of a signed number, by way of the bytes that it is written as.
-fn bits_of(value: i32) -> u32 {
+pub(crate) fn bits_of(value: i32) -> u32 {
     let mut four = [0u8; 4];
     packer::pack_i32(&mut four, 0, value);
     match packer::unpack_u32(&four, 0) {

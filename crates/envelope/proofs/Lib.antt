@@ -1,0 +1,13 @@
+pub mod Answers
+pub mod Places
+pub mod Readers
+pub mod Replies
+pub mod Order
+pub mod Prefix
+pub mod Full
+pub mod Good
+pub mod Sized
+pub mod OwnBytes
+pub mod Longest
+pub mod Unique
+pub mod Frames

@@ -1,0 +1,60 @@
+-- A good frame is judged by its own bytes alone, and its payload is read within the payload. Assumes nothing.
+use mathlib.Core.Path.{_≡_, sym, ap, _∙_}
+use mathlib.Core.List.{List}
+use Prim.Native.Nat.{ℕ, _+_, _-_, _≤_, _<_}
+use native.Mathlib.Omega.{arith}
+use lib.ListN.{length, getD, take, drop, length-drop}
+use lib.Seq.{getD-take, getD-drop, take-take, length-take-le}
+use Rattle.refusals.specs.Refusals.{given}
+use Rattle.checksum.specs.Xmodem.{checksumOf}
+use Rattle.envelope.specs.Envelope.{fieldsEnd, payloadOf, judgeOf}
+use Rattle.envelope.proofs.Places.{own-there, number-own}
+use Rattle.envelope.proofs.Readers.{drop-take}
+use Rattle.envelope.proofs.Replies.{reads-fields}
+use Rattle.envelope.proofs.Good.{GoodFrame, judge-good, good-judged}
+use Rattle.envelope.proofs.Sized.{judge-sized}
+
+-- the payload lies in the frame's own bytes
+pub payload-own : (n end : ℕ) (s : List ℕ) → n + 2 ≤ end → payloadOf n (take end s) ≡ payloadOf n s
+unfolding payloadOf
+payload-own n end s before =
+    let inside : n ≤ end - 2 = omega arith in
+    rw (drop-take 2 end s, take-take n (end - 2) (drop 2 s) inside)
+
+module _ (s : List ℕ) (n : ℕ) (good : GoodFrame s n) where
+  pub payload-length : length (payloadOf n s) ≡ n
+  unfolding payloadOf
+  payload-length = length-take-le n (drop 2 s) (simp length-drop (omega (arith, good .there)))
+
+  -- the fields are read to the payload's end, with nothing behind it
+  pub payload-fields : fieldsEnd (getD s 2 0) (payloadOf n s) 1 ≡ given n
+  unfolding payloadOf
+  payload-fields = reads-fields (getD s 2 0) .own (drop 2 s) 1 n n (omega arith) (good .fields)
+
+  -- the first of the payload's bytes is the id
+  pub payload-id : getD (payloadOf n s) 0 0 ≡ getD s 2 0
+  unfolding payloadOf
+  payload-id =
+      let onward = reads-fields (getD s 2 0) .onward (drop 2 s) 1 n (good .fields) in
+      getD-take n (drop 2 s) 0 0 (omega arith) ∙ getD-drop 2 s 0 0
+
+  good-own : GoodFrame (take (n + 5) s) n
+  good-own =
+      let there = good .there in
+      let same : (k : ℕ) → k < n + 5 → getD (take (n + 5) s) k 0 ≡ getD s k 0 = λ k below. getD-take (n + 5) s k 0 below in
+      record {
+        there = own-there (n + 5) (n + 5) s (omega arith) there;
+        start = same 0 (omega arith) ∙ good .start;
+        declared = good .declared ∙ sym (same 1 (omega arith));
+        fields = rw (same 2 (omega arith), drop-take 2 (n + 5) s)
+            (reads-fields (getD s 2 0) .own (drop 2 s) 1 n (n + 5 - 2) (omega arith) (good .fields));
+        sum = number-own 2 s (n + 2) (n + 5) (omega arith) ∙ good .sum ∙ ap checksumOf (sym (payload-own n (n + 5) s (omega arith)));
+        end = same (n + 4) (omega arith) ∙ good .end;
+      }
+
+-- whatever follows a good frame, the frame alone is judged the same
+pub judge-own-bytes : (xs : List ℕ) (c : ℕ) → judgeOf xs ≡ given c → judgeOf (take c xs) ≡ given c
+judge-own-bytes xs c e =
+    let sized = judge-sized xs c e in
+    let count : c - 5 + 5 ≡ c = omega arith in
+    rw count at (good-judged (take (c - 5 + 5) xs) (c - 5) (good-own xs (c - 5) (judge-good xs c e)))

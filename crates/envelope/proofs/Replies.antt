@@ -1,0 +1,65 @@
+-- The seven replies' readers, a term for each: what a reader of fields promises, and how many bytes it reads at the most. Assumes nothing.
+use mathlib.Core.Bool.{Bool, true, false}
+use mathlib.Core.List.{List, [], _∷_}
+use Prim.Native.Nat.{ℕ, _+_, _≤_}
+use native.Mathlib.Omega.{arith}
+use lib.Dec.{eqb}
+use Rattle.packer.specs.Reading.{pick}
+use Rattle.fields.specs.Fields.{Field, widthOf, hasBit, takes, spanOf, valuesTable, setupTable, statsTable}
+use Rattle.envelope.specs.Envelope.{masked, getValues, fwVersion, fwInfo, fieldsEnd}
+use Rattle.envelope.proofs.Readers.{Reads, reads-nothing, reads-unknown, reads-wider, reads-pick, reads-bytes, reads-then, reads-name, reads-masked}
+
+-- ---- a table's fields take no more than all their widths
+
+widthsOf : List Field → ℕ
+widthsOf [] = 0
+widthsOf (f ∷ fields) = widthOf (f .kind) + widthsOf fields
+
+pick-most : (b : Bool) (width : ℕ) → pick b width 0 ≤ width
+pick-most true width = omega arith
+pick-most false width = omega arith
+
+span-most : (table : List Field) (mask : ℕ) → spanOf table mask ≤ widthsOf table
+unfolding spanOf takes widthsOf
+span-most [] mask = omega arith
+span-most (f ∷ fields) mask = omega (arith, pick-most (hasBit mask (f .bit)) (widthOf (f .kind)), span-most fields mask)
+
+-- ---- the replies
+
+pub reads-fw-version : Reads 104 fwVersion
+unfolding fwVersion
+reads-fw-version =
+    reads-then (reads-then (reads-then (reads-then (reads-then (reads-bytes 2) (reads-name 39)) (reads-bytes 12)) (reads-bytes 8)) (reads-name 39))
+    (reads-bytes 4)
+
+pub reads-values : Reads 73 getValues
+unfolding getValues spanOf takes hasBit
+reads-values = reads-bytes 73
+
+pub reads-selective : Reads 77 (masked valuesTable)
+unfolding widthsOf
+reads-selective = reads-masked valuesTable 73 (span-most valuesTable)
+
+pub reads-setup : Reads 73 (masked setupTable)
+unfolding widthsOf
+reads-setup = reads-masked setupTable 69 (span-most setupTable)
+
+pub reads-stats : Reads 48 (masked statsTable)
+unfolding widthsOf
+reads-stats = reads-masked statsTable 44 (span-most statsTable)
+
+pub reads-fw-info : Reads 97 fwInfo
+unfolding fwInfo
+reads-fw-info = reads-then (reads-then (reads-bytes 3) (reads-name 47)) (reads-name 47)
+
+pub reads-fields : (id : ℕ) → Reads 104 (fieldsEnd id)
+unfolding fieldsEnd
+reads-fields id =
+    reads-pick (eqb id 0) reads-fw-version
+    (reads-pick (eqb id 4) (reads-wider 104 (omega arith) reads-values)
+    (reads-pick (eqb id 50) (reads-wider 104 (omega arith) reads-selective)
+    (reads-pick (eqb id 51) (reads-wider 104 (omega arith) reads-setup)
+    (reads-pick (eqb id 128) (reads-wider 104 (omega arith) reads-stats)
+    (reads-pick (eqb id 129) (reads-wider 104 (omega arith) reads-nothing)
+    (reads-pick (eqb id 157) (reads-wider 104 (omega arith) reads-fw-info)
+    (reads-wider 104 (omega arith) (reads-unknown id))))))))

@@ -1,0 +1,123 @@
+-- The masked replies, document 01, "Reply fields": the field tables, once, and the one walk over a table. Assumes nothing.
+use Prim.Native.Nat.{ℕ, _+_, _/_, _%_, _^_}
+use mathlib.Core.Bool.{Bool}
+use mathlib.Core.List.{List, [], _∷_}
+use lib.Dec.{eqb}
+use Rattle.packer.specs.Numbers.{beAt}
+use Rattle.packer.specs.Reading.{pick}
+
+-- "hS is a signed 16-bit number over S, wS a signed 32-bit number over S, i and u signed and unsigned 32-bit, b a byte, F a binary32 by its bits."
+pub data Kind : Type 0 where
+  h : ℕ → Kind
+  w : ℕ → Kind
+  i : Kind
+  u : Kind
+  b : Kind
+  F : Kind
+
+-- the bytes that it takes
+abbrev pub widthOf : Kind → ℕ
+widthOf (h scale) = 2
+widthOf (w scale) = 4
+widthOf i = 4
+widthOf u = 4
+widthOf b = 1
+widthOf F = 4
+
+-- a field: the mask's bit that governs it, and its kind
+pub record Field : Type 0 where
+  pub bit : ℕ
+  pub kind : Kind
+
+abbrev pub field : ℕ → Kind → Field
+field bit kind = record { bit = bit; kind = kind }
+
+-- GetValuesSelective, and GetValues as the mask of all ones. "Bit 18 governs the three temp_mosfet1..3 together."
+abbrev pub valuesTable : List Field
+valuesTable =
+    field 0 (h 10)  -- temp_mosfet
+    ∷ field 1 (h 10)  -- temp_motor
+    ∷ field 2 (w 100)  -- avg_current_motor
+    ∷ field 3 (w 100)  -- avg_current_input
+    ∷ field 4 (w 100)  -- avg_current_d
+    ∷ field 5 (w 100)  -- avg_current_q
+    ∷ field 6 (h 1000)  -- duty_cycle
+    ∷ field 7 (w 1)  -- rpm
+    ∷ field 8 (h 10)  -- voltage_in
+    ∷ field 9 (w 10000)  -- amp_hours
+    ∷ field 10 (w 10000)  -- amp_hours_charged
+    ∷ field 11 (w 10000)  -- watt_hours
+    ∷ field 12 (w 10000)  -- watt_hours_charged
+    ∷ field 13 i  -- tachometer
+    ∷ field 14 i  -- tachometer_abs
+    ∷ field 15 b  -- fault_code
+    ∷ field 16 (w 1000000)  -- pid_pos
+    ∷ field 17 b  -- controller_id
+    ∷ field 18 (h 10)  -- temp_mosfet1
+    ∷ field 18 (h 10)  -- temp_mosfet2
+    ∷ field 18 (h 10)  -- temp_mosfet3
+    ∷ field 19 (w 1000)  -- avg_voltage_d
+    ∷ field 20 (w 1000)  -- avg_voltage_q
+    ∷ field 21 b  -- status
+    ∷ []
+
+-- GetValuesSetupSelective
+abbrev pub setupTable : List Field
+setupTable =
+    field 0 (h 10)  -- temp_mosfet
+    ∷ field 1 (h 10)  -- temp_motor
+    ∷ field 2 (w 100)  -- avg_current_motor
+    ∷ field 3 (w 100)  -- avg_current_input
+    ∷ field 4 (h 1000)  -- duty_cycle
+    ∷ field 5 (w 1)  -- rpm
+    ∷ field 6 (w 1000)  -- speed
+    ∷ field 7 (h 10)  -- voltage_in
+    ∷ field 8 (h 1000)  -- battery_level
+    ∷ field 9 (w 10000)  -- amp_hours
+    ∷ field 10 (w 10000)  -- amp_hours_charged
+    ∷ field 11 (w 10000)  -- watt_hours
+    ∷ field 12 (w 10000)  -- watt_hours_charged
+    ∷ field 13 (w 1000)  -- distance
+    ∷ field 14 (w 1000)  -- distance_abs
+    ∷ field 15 (w 1000000)  -- pid_pos
+    ∷ field 16 b  -- fault_code
+    ∷ field 17 b  -- controller_id
+    ∷ field 18 b  -- num_vescs
+    ∷ field 19 (w 1000)  -- watt_hours_battery_left
+    ∷ field 20 u  -- odometer
+    ∷ field 21 u  -- uptime_ms
+    ∷ []
+
+-- GetStats: "bits 0 to 10, each F"
+abbrev pub statsTable : List Field
+statsTable =
+    field 0 F  -- speed_avg
+    ∷ field 1 F  -- speed_max
+    ∷ field 2 F  -- power_avg
+    ∷ field 3 F  -- power_max
+    ∷ field 4 F  -- current_avg
+    ∷ field 5 F  -- current_max
+    ∷ field 6 F  -- temp_mosfet_avg
+    ∷ field 7 F  -- temp_mosfet_max
+    ∷ field 8 F  -- temp_motor_avg
+    ∷ field 9 F  -- temp_motor_max
+    ∷ field 10 F  -- count_time
+    ∷ []
+
+-- whether a mask has a bit
+unfoldable pub hasBit : ℕ → ℕ → Bool
+hasBit mask bit = eqb (mask / 2 ^ bit % 2) 1
+
+-- the bytes that a field takes under a mask: none where its bit is not set
+unfoldable pub takes : ℕ → Field → ℕ
+takes mask f = pick (hasBit mask (f .bit)) (widthOf (f .kind)) 0
+
+-- the bytes that a table's fields take under a mask: "Other mask bits consume nothing."
+unfoldable pub spanOf : List Field → ℕ → ℕ
+spanOf [] mask = 0
+spanOf (f ∷ fields) mask = takes mask f + spanOf fields mask
+
+-- the raw numbers of the fields from a place on, in the table's order: "An absent field is zero"
+unfoldable pub rawsAt : List Field → ℕ → List ℕ → ℕ → List ℕ
+rawsAt [] mask s at = []
+rawsAt (f ∷ fields) mask s at = beAt s at (takes mask f) ∷ rawsAt fields mask s (at + takes mask f)

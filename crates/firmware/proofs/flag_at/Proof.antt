@@ -1,0 +1,15 @@
+-- `firmware::flag_at` meets its contract. Assumes nothing.
+use mathlib.Core.Path.{ap}
+use Rattle.firmware.specs.Firmware.{flagOf}
+use borrow.Author.Needs.{needs}
+use Rattle.firmware.proofs.flag_at.Statement.{statement}
+use Rattle.firmware.proofs.flag_at.Tie as tie
+
+byte-at-requires : tie.Need-byte-at-requires
+byte-at-requires c κs = search needs
+
+returns : tie.Need-returns
+returns c = ap flagOf (c .byte-at .ensures)
+
+pub flag-at-spec : {M : Type 1} → statement M
+flag-at-spec = tie.close (tie.spec byte-at-requires returns)

@@ -1,0 +1,15 @@
+-- `reply::unpack_get_values` meets its contract. Assumes nothing.
+use Rattle.reply.specs.Reply.{getValuesOf}
+use borrow.Author.Needs.{needs}
+use Rattle.reply.proofs.unpack_get_values.Statement.{statement}
+use Rattle.reply.proofs.unpack_get_values.Tie as tie
+
+with-values-requires : tie.Need-with-values-requires
+with-values-requires c κs = search needs
+
+returns : tie.Need-returns
+unfolding getValuesOf
+returns c = c .with-values .ensures
+
+pub unpack-get-values-spec : {M : Type 1} → statement M
+unpack-get-values-spec = tie.close (tie.spec with-values-requires returns)
