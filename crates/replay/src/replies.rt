@@ -27,7 +27,11 @@ fn byte(sum: u32, value: u8) -> u32 {
 }
 
 fn flag(sum: u32, value: bool) -> u32 {
-    if value { shows::mixed(sum, 1) } else { shows::mixed(sum, 0) }
+    if value {
+        shows::mixed(sum, 1)
+    } else {
+        shows::mixed(sum, 0)
+    }
 }
 
 fn words(sum: u32, bytes: &[u8]) -> u32 {
@@ -41,43 +45,108 @@ fn words(sum: u32, bytes: &[u8]) -> u32 {
 }
 
 fn of_values(sum: u32, v: Values) -> u32 {
-    let currents = float(float(float(float(sum, v.temp_mosfet), v.temp_motor), v.avg_current_motor), v.avg_current_input);
-    let speeds = float(float(float(float(currents, v.avg_current_d), v.avg_current_q), v.duty_cycle), v.rpm);
-    let hours = float(float(float(speeds, v.voltage_in), v.amp_hours), v.amp_hours_charged);
+    let currents = float(
+        float(
+            float(float(sum, v.temp_mosfet), v.temp_motor),
+            v.avg_current_motor,
+        ),
+        v.avg_current_input,
+    );
+    let speeds = float(
+        float(
+            float(float(currents, v.avg_current_d), v.avg_current_q),
+            v.duty_cycle,
+        ),
+        v.rpm,
+    );
+    let hours = float(
+        float(float(speeds, v.voltage_in), v.amp_hours),
+        v.amp_hours_charged,
+    );
     let counts = float(float(hours, v.watt_hours), v.watt_hours_charged);
     let turns = signed(signed(counts, v.tachometer), v.tachometer_abs);
-    let faults = byte(turns, kinds::fault_number(v.fault_code));
+    let fault = v.fault_code;
+    let faults = byte(turns, kinds::fault_number(fault));
     let place = byte(float(faults, v.pid_pos), v.controller_id);
-    let heat = float(float(float(place, v.temp_mosfet1), v.temp_mosfet2), v.temp_mosfet3);
-    byte(float(float(heat, v.avg_voltage_d), v.avg_voltage_q), v.status)
+    let heat = float(
+        float(float(place, v.temp_mosfet1), v.temp_mosfet2),
+        v.temp_mosfet3,
+    );
+    byte(
+        float(float(heat, v.avg_voltage_d), v.avg_voltage_q),
+        v.status,
+    )
 }
 
 fn of_setup_values(sum: u32, v: SetupValues) -> u32 {
-    let currents = float(float(float(float(sum, v.temp_mosfet), v.temp_motor), v.avg_current_motor), v.avg_current_input);
+    let currents = float(
+        float(
+            float(float(sum, v.temp_mosfet), v.temp_motor),
+            v.avg_current_motor,
+        ),
+        v.avg_current_input,
+    );
     let speeds = float(float(float(currents, v.duty_cycle), v.rpm), v.speed);
-    let hours = float(float(float(float(speeds, v.voltage_in), v.battery_level), v.amp_hours), v.amp_hours_charged);
-    let ways = float(float(float(float(hours, v.watt_hours), v.watt_hours_charged), v.distance), v.distance_abs);
-    let faults = byte(float(ways, v.pid_pos), kinds::fault_number(v.fault_code));
-    let left = float(byte(byte(faults, v.controller_id), v.num_vescs), v.watt_hours_battery_left);
+    let hours = float(
+        float(
+            float(float(speeds, v.voltage_in), v.battery_level),
+            v.amp_hours,
+        ),
+        v.amp_hours_charged,
+    );
+    let ways = float(
+        float(
+            float(float(hours, v.watt_hours), v.watt_hours_charged),
+            v.distance,
+        ),
+        v.distance_abs,
+    );
+    let fault = v.fault_code;
+    let faults = byte(float(ways, v.pid_pos), kinds::fault_number(fault));
+    let left = float(
+        byte(byte(faults, v.controller_id), v.num_vescs),
+        v.watt_hours_battery_left,
+    );
     shows::mixed(shows::mixed(left, v.odometer), v.uptime_ms)
 }
 
 fn of_stats(sum: u32, s: Stats) -> u32 {
-    let powers = float(float(float(float(sum, s.speed_avg), s.speed_max), s.power_avg), s.power_max);
-    let heat = float(float(float(float(powers, s.current_avg), s.current_max), s.temp_mosfet_avg), s.temp_mosfet_max);
-    float(float(float(heat, s.temp_motor_avg), s.temp_motor_max), s.count_time)
+    let powers = float(
+        float(float(float(sum, s.speed_avg), s.speed_max), s.power_avg),
+        s.power_max,
+    );
+    let heat = float(
+        float(
+            float(float(powers, s.current_avg), s.current_max),
+            s.temp_mosfet_avg,
+        ),
+        s.temp_mosfet_max,
+    );
+    float(
+        float(float(heat, s.temp_motor_avg), s.temp_motor_max),
+        s.count_time,
+    )
+}
+
+fn name(sum: u32, name: [u8; 39]) -> u32 {
+    words(sum, &name)
 }
 
 fn of_fw_version(sum: u32, v: FwVersion) -> u32 {
     let hw_name = v.hw_name;
     let uuid = v.uuid;
     let fw_name = v.fw_name;
-    let named = words(words(byte(byte(sum, v.major), v.minor), &hw_name), &uuid);
+    let named = words(name(byte(byte(sum, v.major), v.minor), hw_name), &uuid);
     let tested = byte(flag(named, v.pairing_done), v.test_version_number);
-    let kinds = byte(byte(tested, kinds::hw_type_number(v.hw_type)), v.custom_config_num);
-    let filters = byte(flag(kinds, v.has_phase_filters), kinds::qml_hw_number(v.qml_hw));
+    let hw = v.hw_type;
+    let qml = v.qml_hw;
+    let configured = byte(byte(tested, kinds::hw_type_number(hw)), v.custom_config_num);
+    let filters = byte(
+        flag(configured, v.has_phase_filters),
+        kinds::qml_hw_number(qml),
+    );
     let flags = byte(byte(filters, v.qml_app), v.nrf_flags);
-    shows::mixed(words(flags, &fw_name), v.hw_crc)
+    shows::mixed(name(flags, fw_name), v.hw_crc)
 }
 
 fn of_fw_info(sum: u32, v: FwInfo) -> u32 {
@@ -90,14 +159,19 @@ fn of_fw_info(sum: u32, v: FwInfo) -> u32 {
 pub(crate) fn digest(reply: CommandReply) -> u32 {
     let kind = reply.kind;
     let sum = byte(0, kind.number());
+    let values = reply.values;
+    let setup_values = reply.setup_values;
+    let stats = reply.stats;
+    let fw_version = reply.fw_version;
+    let fw_info = reply.fw_info;
     match kind {
-        Kind::FwVersion => of_fw_version(sum, reply.fw_version),
-        Kind::GetValues => of_values(sum, reply.values),
-        Kind::GetValuesSelective => of_values(sum, reply.values),
-        Kind::GetValuesSetupSelective => of_setup_values(sum, reply.setup_values),
-        Kind::GetStats => of_stats(sum, reply.stats),
+        Kind::FwVersion => of_fw_version(sum, fw_version),
+        Kind::GetValues => of_values(sum, values),
+        Kind::GetValuesSelective => of_values(sum, values),
+        Kind::GetValuesSetupSelective => of_setup_values(sum, setup_values),
+        Kind::GetStats => of_stats(sum, stats),
         Kind::ResetStats => sum,
-        Kind::FwInfo => of_fw_info(sum, reply.fw_info),
+        Kind::FwInfo => of_fw_info(sum, fw_info),
     }
 }
 

@@ -19,8 +19,8 @@ use Rattle.vesc.specs.Frames.{All, frames}
 
 pub p-frames : All frames
 unfolding
-  mul round toSigned ofInt div ofBits bringDown remainder bitsOfByte bitsOf checksumOf readingOf writingOf beAt bigEndian signedOf unsignedOf readAt consumeAt nulWithin
-  hopBytes payloadOf frameOf encodeAnswer encodeAfter hasBit takes spanOf rawsAt faultOf valuesWith valuesOf numberOf byteAt masked getValues fwVersion fwInfo fieldsEnd
-  framePayload judgeSumOf finishOf judgeOf blankOf emptyReply maskOf replyOf replyBy decodeOf
+    mul round toSigned ofInt div ofBits bringDown remainder bitsOfByte bitsOf checksumOf readingOf writingOf beAt bigEndian signedOf unsignedOf readAt consumeAt nulWithin
+    hopBytes payloadOf frameOf encodeAnswer encodeAfter hasBit takes spanOf rawsAt faultOf valuesWith valuesOf numberOf byteAt masked getValues fwVersion fwInfo fieldsEnd
+    framePayload judgeSumOf finishOf judgeOf blankOf emptyReply maskOf replyOf replyBy decodeOf
 p-frames =
     ((refl, refl), ((refl, refl), ((refl, refl), (refl, (refl, ((refl, refl), ((refl, refl), ((refl, refl), ((refl, refl), ((refl, refl), ((refl, refl), ((refl, refl), ((refl, refl), ((refl, refl), ((refl, refl), ((refl, refl), ((refl, refl, refl, refl), tt)))))))))))))))))
