@@ -7,9 +7,7 @@ use native.Mathlib.Omega.{arith}
 use lib.ListN.{length, drop, getD, length-append, drop-of-length-le}
 use lib.Seq.{drop-cons}
 use mir.Val.{boolByte}
-use Rattle.checksum.specs.Xmodem.{checksumOf}
 use Rattle.packer.specs.Numbers.{bigEndian}
-use Rattle.packer.proofs.Writes.{digits-length}
 use Rattle.command.specs.Commands.{bytesOf, sizeOf, flagOf, hopBytes, payloadOf, frameOf}
 use Rattle.command.specs.declared.Command.{Command}
 use Rattle.command.specs.declared.Command.the-variants.{FwVersion, GetValues, SetDuty, SetCurrent, SetCurrentBrake, SetRpm, SetPos, SetHandbrake, Reboot, Alive, GetValuesSelective, GetValuesSetupSelective, SetCurrentRel, SetOdometer, GetStats, ResetStats, Shutdown, FwInfo, MotorEstop}
@@ -80,11 +78,5 @@ unfolding payloadOf
 payload-length command hops = omega (arith, length-append (hopBytes hops) (bytesOf command), hops-length hops, sizes command .0)
 
 pub frame-length : (payload : List ℕ) → length (frameOf payload) ≡ length payload + 5
-unfolding frameOf
-frame-length payload =
-    omega (
-      arith,
-      length-append payload (bigEndian 2 (checksumOf payload) ++ (3 ∷ [])),
-      length-append (bigEndian 2 (checksumOf payload)) (3 ∷ []),
-      digits-length 2 (checksumOf payload),
-    )
+unfolding frameOf bigEndian
+frame-length payload = simp length-append (omega arith)

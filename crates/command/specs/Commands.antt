@@ -13,7 +13,7 @@ use Rattle.packer.specs.Numbers.{bigEndian, unsignedOf}
 use Rattle.command.specs.declared.Command.{Command}
 use Rattle.command.specs.declared.Command.the-variants.{FwVersion, GetValues, SetDuty, SetCurrent, SetCurrentBrake, SetRpm, SetPos, SetHandbrake, Reboot, Alive, GetValuesSelective, GetValuesSetupSelective, SetCurrentRel, SetOdometer, GetStats, ResetStats, Shutdown, FwInfo, MotorEstop}
 
--- "flags as 0 or 1"
+-- "two flags as 0 or 1"
 abbrev pub flagOf : Bool → ℕ
 flagOf true = 1
 flagOf false = 0
@@ -49,7 +49,7 @@ bytesOf FwInfo = 157 ∷ []
 bytesOf (MotorEstop time) = 159 ∷ bigEndian 2 time
 
 -- how many these are. "One byte: FwVersion, GetValues, Reboot, Alive, FwInfo. Id and four bytes: the six scaled ones, SetRpm, SetOdometer,
--- both selective queries. Three bytes: GetStats, MotorEstop, Shutdown. Two: ResetStats."
+-- both selective queries. Three bytes: GetStats, MotorEstop, Shutdown (two flags as 0 or 1). Two: ResetStats."
 abbrev pub sizeOf : Command → ℕ
 sizeOf FwVersion = 1
 sizeOf GetValues = 1

@@ -11,7 +11,7 @@ use Rattle.command.specs.declared.Command.{Command}
 use Rattle.command.specs.declared.Encoded.{Encoded}
 use Rattle.command.specs.declared.Encoded.the-variants.{Written, Refused}
 
--- "`encode` tests 6, then 5": a payload of n bytes into so much room. "On success the count is n + 5."
+-- "`encode` tests 6, then 5": what a payload of n bytes into so much room answers. The count of a success is that of its frame, "n + 5 bytes".
 unfoldable pub encodeAnswer : ℕ → ℕ → Answer ℕ
 encodeAnswer n room = cond (ltb 255 n) (refused payloadTooLong) (cond (ltb room (n + 5)) (refused bufferTooSmall) (given (n + 5)))
 

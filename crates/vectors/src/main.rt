@@ -1,5 +1,8 @@
-// Runs the vectors of the public documents that are not proved, and prints what comes: the
-// catalogue's check value of CRC-16/XMODEM, and document 01's two readings past 2^24.
+// Runs the vectors of the public documents that are not proved, and prints what comes: the catalogue's
+// check value of CRC-16/XMODEM, document 01's two readings past 2^24, and those of its frames that it
+// does not mark P. The last line of commands is an encode behind a million hops.
+mod frames;
+
 use libc::STDOUT_FILENO;
 
 fn check_value() {
@@ -20,4 +23,10 @@ fn main() {
     check_value();
     reading(16777217);
     reading(16777219);
+    frames::fw_version();
+    frames::hops_before_alive();
+    frames::hops_before_set_rpm();
+    frames::million_hops();
+    frames::name_in_fw_version();
+    frames::name_in_fw_info();
 }

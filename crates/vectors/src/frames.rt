@@ -1,0 +1,142 @@
+// Document 01, "Frames on both sides of each rule" and "Commands": the lines that are run.
+ghost use mathlib.Core.Path.{_≡_};
+ghost use Prim.Native.Nat.{_≤_};
+ghost use lib.ListN.{length};
+use command::Command;
+use command::Encoded;
+use envelope::Judged;
+use libc::STDOUT_FILENO;
+
+fn count(n: usize) {
+    io::print_decimal(STDOUT_FILENO, n as u64);
+    io::write_all(STDOUT_FILENO, b"\n");
+}
+
+// The number of bytes written, or document 01's number of the refusal.
+fn encoded(answer: Encoded) {
+    match answer {
+        Encoded::Written(n) => {
+            io::write_all(STDOUT_FILENO, b"written ");
+            count(n);
+        }
+        Encoded::Refused(e) => {
+            io::write_all(STDOUT_FILENO, b"refused ");
+            count(e.number() as usize);
+        }
+    }
+}
+
+fn judged(answer: Judged) {
+    match answer {
+        Judged::Good(n) => {
+            io::write_all(STDOUT_FILENO, b"good ");
+            count(n);
+        }
+        Judged::Refused(e) => {
+            io::write_all(STDOUT_FILENO, b"refused ");
+            count(e.number() as usize);
+        }
+    }
+}
+
+fn byte(b: u8) {
+    io::print_decimal(STDOUT_FILENO, b as u64);
+    io::write_all(STDOUT_FILENO, b" ");
+}
+
+fn bytes(all: &[u8]) {
+    let mut at = 0;
+    while at < all.len() {
+        byte(all[at]);
+        at += 1;
+    }
+}
+
+pub(crate) fn fw_version() {
+    let mut buf = [0u8; 6];
+    let answer = command::encode(Command::FwVersion, b"", &mut buf);
+    io::write_all(STDOUT_FILENO, b"FwVersion: ");
+    bytes(&buf);
+    encoded(answer);
+}
+
+// A hop each; 300 are more than any payload takes.
+fn hops() -> [u8; 300]
+    ensures { λ r. ⌜ length r ≡ 300 ⌝ }
+{
+    [7u8; 300]
+}
+
+fn room() -> [u8; 300]
+    ensures { λ r. ⌜ length r ≡ 300 ⌝ }
+{
+    [0u8; 300]
+}
+
+fn behind(sent: Command, some: usize) {
+    let all = hops();
+    let mut buf = room();
+    if 300 < some {
+        return;
+    }
+    encoded(command::encode(sent, &all[..some], &mut buf));
+}
+
+pub(crate) fn hops_before_alive() {
+    io::write_all(STDOUT_FILENO, b"127 and 128 hops before Alive:\n");
+    behind(Command::Alive, 127);
+    behind(Command::Alive, 128);
+}
+
+pub(crate) fn hops_before_set_rpm() {
+    io::write_all(STDOUT_FILENO, b"125 and 126 hops before SetRpm:\n");
+    behind(Command::SetRpm(-1500), 125);
+    behind(Command::SetRpm(-1500), 126);
+}
+
+fn behind_all(all: &[u8; 1000000]) {
+    let mut buf = room();
+    encoded(command::encode(Command::Alive, all, &mut buf));
+}
+
+// Refused before any recursion over the hops.
+pub(crate) fn million_hops() {
+    io::write_all(STDOUT_FILENO, b"a million hops before Alive: ");
+    behind_all(&[9u8; 1000000]);
+}
+
+// The front of a frame whose name has no NUL: 2, a length, an id, 1, 1, and then 65.
+fn unending(declared: u8, id: u8) -> [u8; 60]
+    ensures { λ r. ⌜ length r ≡ 60 ⌝ }
+{
+    let mut all = [65u8; 60];
+    all[0] = 2;
+    all[1] = declared;
+    all[2] = id;
+    all[3] = 1;
+    all[4] = 1;
+    all
+}
+
+// What so many bytes of it are judged to be.
+fn front(declared: u8, id: u8, some: usize) {
+    let all = unending(declared, id);
+    if some <= 60 {
+        judged(envelope::judge(&all[..some]));
+    }
+}
+
+pub(crate) fn name_in_fw_version() {
+    io::write_all(
+        STDOUT_FILENO,
+        b"FwVersion with 38 and 39 bytes of a name:\n",
+    );
+    front(105, 0, 43);
+    front(105, 0, 44);
+}
+
+pub(crate) fn name_in_fw_info() {
+    io::write_all(STDOUT_FILENO, b"FwInfo with 46 and 47 bytes of a name:\n");
+    front(98, 157, 52);
+    front(98, 157, 53);
+}
