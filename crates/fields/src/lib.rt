@@ -23,8 +23,8 @@ pub enum Sort {
     Stats,
 }
 
-// A variant holds no array, so the raw numbers stand beside the answer: in the table's order, zeros past
-// its last field, and zeros alone on a refusal.
+// A variant holds no array, so the raw numbers stand beside the answer: in the table's order, zeros
+// past its last field, and zeros alone on a refusal.
 pub struct UnpackedFields {
     pub answer: Consumed,
     pub raw: [u32; 24],
@@ -161,6 +161,7 @@ fn number_at(buf: &[u8], pos: usize, width: usize) -> u32
     0
 }
 
+// IncompleteData, with no number.
 fn incomplete() -> UnpackedFields
     ensures { λ r. ⌜ r ≡ noFields ⌝ }
 {

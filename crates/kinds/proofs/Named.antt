@@ -5,7 +5,7 @@ use mathlib.Core.Bool.{Bool, true, false, _&&_}
 use mathlib.Core.List.{List, [], _∷_}
 use Prim.Native.Nat.{ℕ, zero, suc, _+_, _≤_, _<_}
 use native.Mathlib.Omega.{arith}
-use native.Mathlib.Nat.{add-zero, add-suc, suc-add}
+use native.Mathlib.Nat.{add-zero, zero-add, add-suc, suc-add}
 use lib.Dec.{T, eqb, eqb→eq}
 use lib.ListN.{length, getD, List·getD-eq-default}
 use Rattle.kinds.specs.declared.FaultCode.{FaultCode}
@@ -32,37 +32,42 @@ module _ {A : Type 0} where
   any-default (name ∷ names) zero d e h = refl
   any-default (name ∷ names) (suc n) d e h = any-default names n d e (omega arith)
 
-  unnamed : (names : List A) (unknown : A) (n : ℕ) → length names ≤ n → getD names n unknown ≡ unknown
-  unnamed names unknown n h = List·getD-eq-default names unknown h
-
   -- whether the names are numbered one after the other, from k on
   abbrev counted : (A → ℕ) → ℕ → List A → Bool
   counted number k [] = true
   counted number k (name ∷ names) = eqb (number name) k && counted number (suc k) names
 
-  numbered : (number : A → ℕ) (names : List A) (unknown : A) (k n : ℕ) → T (counted number k names) → n < length names
+  place : (number : A → ℕ) (names : List A) (unknown : A) (k n : ℕ) → T (counted number k names) → n < length names
       → number (getD names n unknown) ≡ k + n
-  numbered number [] unknown k n t h = absurd (omega arith)
-  numbered number (name ∷ names) unknown k zero t h = eqb→eq (number name) k (and-left (eqb (number name) k) _ t) ∙ sym (add-zero k)
-  numbered number (name ∷ names) unknown k (suc n) t h =
-      numbered number names unknown (suc k) n (and-right (eqb (number name) k) _ t) (omega arith) ∙ suc-add k n ∙ sym (add-suc k n)
+  place number [] unknown k n t h = absurd (omega arith)
+  place number (name ∷ names) unknown k zero t h = eqb→eq (number name) k (and-left (eqb (number name) k) _ t) ∙ sym (add-zero k)
+  place number (name ∷ names) unknown k (suc n) t h =
+      place number names unknown (suc k) n (and-right (eqb (number name) k) _ t) (omega arith) ∙ suc-add k n ∙ sym (add-suc k n)
 
-  told : (number : A → ℕ) (of : ℕ → A) → ((a : A) → of (number a) ≡ a) → (a b : A) → number a ≡ number b → a ≡ b
-  told number of back a b e = sym (back a) ∙ ap of e ∙ back b
+  -- a reading of bytes as kinds, so many of them named, and the kinds' numbers
+  pub record Numbered (count : ℕ) (of : ℕ → A) (number : A → ℕ) (unknown : A) : Type 0 where
+    -- a named byte is its kind's number
+    pub named : (n : ℕ) → n < count → number (of n) ≡ n
+    -- any other is unknown
+    pub unnamed : (n : ℕ) → count ≤ n → of n ≡ unknown
+    -- and a kind's number is read as the kind
+    pub back : (kind : A) → of (number kind) ≡ kind
+
+  by-names : (number : A → ℕ) (names : List A) (unknown : A) → T (counted number 0 names) → ((kind : A) → getD names (number kind) unknown ≡ kind)
+      → Numbered (length names) (λ n. getD names n unknown) number unknown
+  by-names number names unknown t back =
+      record {
+        named = λ n h. place number names unknown 0 n t h ∙ zero-add n;
+        unnamed = λ n h. List·getD-eq-default names unknown h;
+        back = back;
+      }
+
+  -- so a number has one kind
+  pub same-kind : {count : ℕ} {of : ℕ → A} {number : A → ℕ} {unknown : A} → Numbered count of number unknown → (a b : A) → number a ≡ number b → a ≡ b
+  same-kind {of = of} numbered a b e = sym (numbered .back a) ∙ ap of e ∙ numbered .back b
 
 -- ---- faults
-pub fault-named : (n : ℕ) → n < 30 → faultNumber (faultOf n) ≡ n
-unfolding faultOf
-fault-named n h = numbered faultNumber faults FaultCode.Unknown 0 n tt h ∙ omega arith
-
-pub fault-unnamed : (n : ℕ) → 30 ≤ n → faultOf n ≡ FaultCode.Unknown
-unfolding faultOf
-fault-unnamed n h = unnamed faults FaultCode.Unknown n h
-
-pub fault-unnamed-number : (n : ℕ) → 30 ≤ n → faultNumber (faultOf n) ≡ 255
-fault-unnamed-number n h = ap faultNumber (fault-unnamed n h)
-
-pub fault-back : (kind : FaultCode) → faultOf (faultNumber kind) ≡ kind
+fault-back : (kind : FaultCode) → faultOf (faultNumber kind) ≡ kind
 unfolding faultOf
 fault-back FaultCode.None = refl
 fault-back FaultCode.OverVoltage = refl
@@ -96,49 +101,30 @@ fault-back FaultCode.EncoderFault = refl
 fault-back FaultCode.LvOutputFault = refl
 fault-back FaultCode.Unknown = refl
 
-pub same-fault : (a b : FaultCode) → faultNumber a ≡ faultNumber b → a ≡ b
-same-fault a b e = told faultNumber faultOf fault-back a b e
+pub fault-numbered : Numbered 30 faultOf faultNumber FaultCode.Unknown
+unfolding faultOf
+fault-numbered = by-names faultNumber faults FaultCode.Unknown tt fault-back
 
 -- ---- hardware
-pub hw-type-named : (n : ℕ) → n < 3 → hwTypeNumber (hwTypeOf n) ≡ n
-unfolding hwTypeOf
-hw-type-named n h = numbered hwTypeNumber hwTypes HwType.Unknown 0 n tt h ∙ omega arith
-
-pub hw-type-unnamed : (n : ℕ) → 3 ≤ n → hwTypeOf n ≡ HwType.Unknown
-unfolding hwTypeOf
-hw-type-unnamed n h = unnamed hwTypes HwType.Unknown n h
-
-pub hw-type-unnamed-number : (n : ℕ) → 3 ≤ n → hwTypeNumber (hwTypeOf n) ≡ 255
-hw-type-unnamed-number n h = ap hwTypeNumber (hw-type-unnamed n h)
-
-pub hw-type-back : (kind : HwType) → hwTypeOf (hwTypeNumber kind) ≡ kind
+hw-type-back : (kind : HwType) → hwTypeOf (hwTypeNumber kind) ≡ kind
 unfolding hwTypeOf
 hw-type-back HwType.Vesc = refl
 hw-type-back HwType.VescBms = refl
 hw-type-back HwType.CustomModule = refl
 hw-type-back HwType.Unknown = refl
 
-pub same-hw-type : (a b : HwType) → hwTypeNumber a ≡ hwTypeNumber b → a ≡ b
-same-hw-type a b e = told hwTypeNumber hwTypeOf hw-type-back a b e
+pub hw-type-numbered : Numbered 3 hwTypeOf hwTypeNumber HwType.Unknown
+unfolding hwTypeOf
+hw-type-numbered = by-names hwTypeNumber hwTypes HwType.Unknown tt hw-type-back
 
 -- ---- QML interfaces
-pub qml-hw-named : (n : ℕ) → n < 3 → qmlHwNumber (qmlHwOf n) ≡ n
-unfolding qmlHwOf
-qml-hw-named n h = numbered qmlHwNumber qmlHws QmlHw.Unknown 0 n tt h ∙ omega arith
-
-pub qml-hw-unnamed : (n : ℕ) → 3 ≤ n → qmlHwOf n ≡ QmlHw.Unknown
-unfolding qmlHwOf
-qml-hw-unnamed n h = unnamed qmlHws QmlHw.Unknown n h
-
-pub qml-hw-unnamed-number : (n : ℕ) → 3 ≤ n → qmlHwNumber (qmlHwOf n) ≡ 255
-qml-hw-unnamed-number n h = ap qmlHwNumber (qml-hw-unnamed n h)
-
-pub qml-hw-back : (kind : QmlHw) → qmlHwOf (qmlHwNumber kind) ≡ kind
+qml-hw-back : (kind : QmlHw) → qmlHwOf (qmlHwNumber kind) ≡ kind
 unfolding qmlHwOf
 qml-hw-back QmlHw.None = refl
 qml-hw-back QmlHw.Embedded = refl
 qml-hw-back QmlHw.Fullscreen = refl
 qml-hw-back QmlHw.Unknown = refl
 
-pub same-qml-hw : (a b : QmlHw) → qmlHwNumber a ≡ qmlHwNumber b → a ≡ b
-same-qml-hw a b e = told qmlHwNumber qmlHwOf qml-hw-back a b e
+pub qml-hw-numbered : Numbered 3 qmlHwOf qmlHwNumber QmlHw.Unknown
+unfolding qmlHwOf
+qml-hw-numbered = by-names qmlHwNumber qmlHws QmlHw.Unknown tt qml-hw-back

@@ -19,7 +19,7 @@ use Rattle.records.specs.declared.Stats.{Stats}
 abbrev pub zero : Float
 zero = ofBits binary32 0
 
--- "hS is a signed 16-bit number over S, wS a signed 32-bit number over S", "F a binary32 by its bits"
+-- "hS is a signed 16-bit number over S, wS a signed 32-bit number over S", "F a binary32 by its bits"; the other kinds are no floats
 abbrev pub floatBy : Kind → ℕ → Float
 floatBy (h scale) raw = readingOf (signedOf 65536 (raw % 65536)) (ofInt binary32 (pos scale))
 floatBy (w scale) raw = readingOf (signedOf 4294967296 raw) (ofInt binary32 (pos scale))
@@ -28,28 +28,36 @@ floatBy u raw = zero
 floatBy b raw = zero
 floatBy F raw = ofBits binary32 raw
 
--- the entry of a table
+-- "i and u signed and unsigned 32-bit"
+abbrev pub signedBy : Kind → ℕ → ℤ
+signedBy (h scale) raw = pos 0
+signedBy (w scale) raw = pos 0
+signedBy i raw = signedOf 4294967296 raw
+signedBy u raw = pos 0
+signedBy b raw = pos 0
+signedBy F raw = pos 0
+
+-- "b a byte"
+abbrev pub unsignedBy : Kind → ℕ → ℕ
+unsignedBy (h scale) raw = 0
+unsignedBy (w scale) raw = 0
+unsignedBy i raw = 0
+unsignedBy u raw = raw
+unsignedBy b raw = raw % 256
+unsignedBy F raw = 0
+
+-- the field at a place of a table, by the table's entry there: "An absent field is zero"
 abbrev pub entry : List Field → ℕ → Field
 entry table k = getD table k (field 0 b)
 
--- the field at a place of a table, of each sort: "An absent field is zero"
-abbrev pub under : {A : Type 0} → List Field → ℕ → ℕ → A → A → A
-under table mask k value none = pick (hasBit mask (entry table k .bit)) value none
-
 abbrev pub floatField : List Field → ℕ → List ℕ → ℕ → Float
-floatField table mask raws k = under table mask k (floatBy (entry table k .kind) (getD raws k 0)) zero
+floatField table mask raws k = pick (hasBit mask (entry table k .bit)) (floatBy (entry table k .kind) (getD raws k 0)) zero
 
--- i
 abbrev pub signedField : List Field → ℕ → List ℕ → ℕ → ℤ
-signedField table mask raws k = under table mask k (signedOf 4294967296 (getD raws k 0)) (pos 0)
+signedField table mask raws k = pick (hasBit mask (entry table k .bit)) (signedBy (entry table k .kind) (getD raws k 0)) (pos 0)
 
--- u
 abbrev pub unsignedField : List Field → ℕ → List ℕ → ℕ → ℕ
-unsignedField table mask raws k = under table mask k (getD raws k 0) 0
-
--- b, a byte
-abbrev pub byteField : List Field → ℕ → List ℕ → ℕ → ℕ
-byteField table mask raws k = under table mask k (getD raws k 0 % 256) 0
+unsignedField table mask raws k = pick (hasBit mask (entry table k .bit)) (unsignedBy (entry table k .kind) (getD raws k 0)) 0
 
 -- zeros, and no fault
 unfoldable pub noValues : Values
@@ -145,18 +153,18 @@ valuesWith fault mask raws =
       «tachometer_abs» = signedField valuesTable mask raws 14;
       «fault_code» = fault;
       «pid_pos» = floatField valuesTable mask raws 16;
-      «controller_id» = byteField valuesTable mask raws 17;
+      «controller_id» = unsignedField valuesTable mask raws 17;
       «temp_mosfet1» = floatField valuesTable mask raws 18;
       «temp_mosfet2» = floatField valuesTable mask raws 19;
       «temp_mosfet3» = floatField valuesTable mask raws 20;
       «avg_voltage_d» = floatField valuesTable mask raws 21;
       «avg_voltage_q» = floatField valuesTable mask raws 22;
-      status = byteField valuesTable mask raws 23;
+      status = unsignedField valuesTable mask raws 23;
     }
 
 -- "An absent field is zero, a fault code None": the byte 0 is None's
 unfoldable pub valuesOf : ℕ → List ℕ → Values
-valuesOf mask raws = valuesWith (faultOf (byteField valuesTable mask raws 15)) mask raws
+valuesOf mask raws = valuesWith (faultOf (unsignedField valuesTable mask raws 15)) mask raws
 
 -- GetValuesSetupSelective
 unfoldable pub setupValuesWith : FaultCode → ℕ → List ℕ → SetupValues
@@ -179,15 +187,15 @@ setupValuesWith fault mask raws =
       «distance_abs» = floatField setupTable mask raws 14;
       «pid_pos» = floatField setupTable mask raws 15;
       «fault_code» = fault;
-      «controller_id» = byteField setupTable mask raws 17;
-      «num_vescs» = byteField setupTable mask raws 18;
+      «controller_id» = unsignedField setupTable mask raws 17;
+      «num_vescs» = unsignedField setupTable mask raws 18;
       «watt_hours_battery_left» = floatField setupTable mask raws 19;
       odometer = unsignedField setupTable mask raws 20;
       «uptime_ms» = unsignedField setupTable mask raws 21;
     }
 
 unfoldable pub setupValuesOf : ℕ → List ℕ → SetupValues
-setupValuesOf mask raws = setupValuesWith (faultOf (byteField setupTable mask raws 16)) mask raws
+setupValuesOf mask raws = setupValuesWith (faultOf (unsignedField setupTable mask raws 16)) mask raws
 
 -- GetStats
 unfoldable pub statsOf : ℕ → List ℕ → Stats

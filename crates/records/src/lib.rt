@@ -124,7 +124,7 @@ fn word_over(mask: u32, bit: u32, raw: u32, scale: f32) -> f32
     0.0
 }
 
-// i
+// i: a signed 32-bit number.
 fn signed_word(mask: u32, bit: u32, raw: u32) -> i32
     requires { ⌜ bit < 32 ⌝ }
     ensures { λ r. ⌜ r ≡ pick (hasBit mask bit) (signedOf 4294967296 raw) (pos 0) ⌝ }
@@ -135,7 +135,7 @@ fn signed_word(mask: u32, bit: u32, raw: u32) -> i32
     0
 }
 
-// u
+// u: an unsigned one.
 fn unsigned_word(mask: u32, bit: u32, raw: u32) -> u32
     requires { ⌜ bit < 32 ⌝ }
     ensures { λ r. ⌜ r ≡ pick (hasBit mask bit) raw 0 ⌝ }
@@ -146,7 +146,7 @@ fn unsigned_word(mask: u32, bit: u32, raw: u32) -> u32
     0
 }
 
-// b
+// b: a byte.
 fn one_byte(mask: u32, bit: u32, raw: u32) -> u8
     requires { ⌜ bit < 32 ⌝ }
     ensures { λ r. ⌜ r ≡ pick (hasBit mask bit) (raw % 256) 0 ⌝ }

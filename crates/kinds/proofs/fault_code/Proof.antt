@@ -2,7 +2,7 @@
 use mathlib.Core.Path.{sym}
 use borrow.Author.Needs.{needs}
 use Rattle.kinds.specs.Kinds.{faults, faultOf}
-use Rattle.kinds.proofs.Named.{any-default, fault-unnamed}
+use Rattle.kinds.proofs.Named.{any-default, fault-numbered}
 use Rattle.kinds.proofs.fault_code.Statement.{statement}
 use Rattle.kinds.proofs.fault_code.Tie as tie
 
@@ -11,10 +11,10 @@ array-copy-out-result c = search needs
 
 returns : tie.Need-returns
 unfolding faultOf
-returns c = any-default faults _ _ _ (c .before .if1 .taken)
+returns c = any-default faults (c .before .before .args .byte) _ _ (search needs)
 
 returns-2 : tie.Need-returns-2
-returns-2 c = sym (fault-unnamed _ (c .if1 .left))
+returns-2 c = sym (fault-numbered .unnamed _ (c .if1 .left))
 
 pub fault-code-spec : {M : Type 1} → statement M
 fault-code-spec = tie.close (tie.spec array-copy-out-result returns returns-2)

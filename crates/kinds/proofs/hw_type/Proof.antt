@@ -2,7 +2,7 @@
 use mathlib.Core.Path.{sym}
 use native.Mathlib.Omega.{arith}
 use Rattle.kinds.specs.Kinds.{hwTypeOf}
-use Rattle.kinds.proofs.Named.{hw-type-unnamed}
+use Rattle.kinds.proofs.Named.{hw-type-numbered}
 use Rattle.kinds.proofs.hw_type.Statement.{statement}
 use Rattle.kinds.proofs.hw_type.Tie as tie
 
@@ -19,7 +19,7 @@ unfolding hwTypeOf
 returns-3 c = rw (c .match .keys3)
 
 returns-4 : tie.Need-returns-4
-returns-4 c = sym (hw-type-unnamed (c .before .args .byte) (omega (arith, c .match .rest .1, c .match .rest .0 .1, c .match .rest .0 .0 .1)))
+returns-4 c = sym (hw-type-numbered .unnamed (c .before .args .byte) (omega (arith, c .match .rest .1, c .match .rest .0 .1, c .match .rest .0 .0 .1)))
 
 pub hw-type-spec : {M : Type 1} → statement M
 hw-type-spec = tie.close (tie.spec returns returns-2 returns-3 returns-4)

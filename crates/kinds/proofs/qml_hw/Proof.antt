@@ -2,7 +2,7 @@
 use mathlib.Core.Path.{sym}
 use native.Mathlib.Omega.{arith}
 use Rattle.kinds.specs.Kinds.{qmlHwOf}
-use Rattle.kinds.proofs.Named.{qml-hw-unnamed}
+use Rattle.kinds.proofs.Named.{qml-hw-numbered}
 use Rattle.kinds.proofs.qml_hw.Statement.{statement}
 use Rattle.kinds.proofs.qml_hw.Tie as tie
 
@@ -19,7 +19,7 @@ unfolding qmlHwOf
 returns-3 c = rw (c .match .keys3)
 
 returns-4 : tie.Need-returns-4
-returns-4 c = sym (qml-hw-unnamed (c .before .args .byte) (omega (arith, c .match .rest .1, c .match .rest .0 .1, c .match .rest .0 .0 .1)))
+returns-4 c = sym (qml-hw-numbered .unnamed (c .before .args .byte) (omega (arith, c .match .rest .1, c .match .rest .0 .1, c .match .rest .0 .0 .1)))
 
 pub qml-hw-spec : {M : Type 1} → statement M
 qml-hw-spec = tie.close (tie.spec returns returns-2 returns-3 returns-4)
