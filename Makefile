@@ -17,4 +17,4 @@ fmt:
 answers:
 	@oracle/setup
 	@cd oracle/answers && cargo build --release --offline --quiet
-	@target/oracle/build/release/answers crates/replay numbers commands replies
+	@target/oracle/build/release/answers crates/replay numbers commands replies streams

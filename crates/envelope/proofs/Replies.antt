@@ -1,30 +1,11 @@
 -- The seven replies' readers, a term for each: what a reader of fields promises, and how many bytes it reads at the most. Assumes nothing.
-use mathlib.Core.Bool.{Bool, true, false}
-use mathlib.Core.List.{List, [], _∷_}
-use Prim.Native.Nat.{ℕ, _+_, _≤_}
+use Prim.Native.Nat.{ℕ}
 use native.Mathlib.Omega.{arith}
 use lib.Dec.{eqb}
-use Rattle.packer.specs.Reading.{pick}
-use Rattle.fields.specs.Fields.{Field, widthOf, hasBit, takes, spanOf, valuesTable, setupTable, statsTable}
+use Rattle.fields.specs.Fields.{valuesTable, setupTable, statsTable}
+use Rattle.fields.proofs.Longest.{values-most, setup-most, stats-most, values-all}
 use Rattle.envelope.specs.Envelope.{masked, getValues, fwVersion, fwInfo, fieldsEnd}
 use Rattle.envelope.proofs.Readers.{Reads, reads-nothing, reads-unknown, reads-wider, reads-pick, reads-bytes, reads-then, reads-name, reads-masked}
-
--- ---- a table's fields take no more than all their widths
-
-widthsOf : List Field → ℕ
-widthsOf [] = 0
-widthsOf (f ∷ fields) = widthOf (f .kind) + widthsOf fields
-
-pick-most : (b : Bool) (width : ℕ) → pick b width 0 ≤ width
-pick-most true width = omega arith
-pick-most false width = omega arith
-
-span-most : (table : List Field) (mask : ℕ) → spanOf table mask ≤ widthsOf table
-unfolding spanOf takes widthsOf
-span-most [] mask = omega arith
-span-most (f ∷ fields) mask = omega (arith, pick-most (hasBit mask (f .bit)) (widthOf (f .kind)), span-most fields mask)
-
--- ---- the replies
 
 pub reads-fw-version : Reads 104 fwVersion
 unfolding fwVersion
@@ -33,20 +14,17 @@ reads-fw-version =
     (reads-bytes 4)
 
 pub reads-values : Reads 73 getValues
-unfolding getValues spanOf takes hasBit
-reads-values = reads-bytes 73
+unfolding getValues
+reads-values = rw values-all (reads-bytes 73)
 
 pub reads-selective : Reads 77 (masked valuesTable)
-unfolding widthsOf
-reads-selective = reads-masked valuesTable 73 (span-most valuesTable)
+reads-selective = reads-masked valuesTable 73 values-most
 
 pub reads-setup : Reads 73 (masked setupTable)
-unfolding widthsOf
-reads-setup = reads-masked setupTable 69 (span-most setupTable)
+reads-setup = reads-masked setupTable 69 setup-most
 
 pub reads-stats : Reads 48 (masked statsTable)
-unfolding widthsOf
-reads-stats = reads-masked statsTable 44 (span-most statsTable)
+reads-stats = reads-masked statsTable 44 stats-most
 
 pub reads-fw-info : Reads 97 fwInfo
 unfolding fwInfo

@@ -1,16 +1,24 @@
 -- `replay::main` meets its contract. Assumes nothing.
+use mathlib.Core.Path.{_≡_}
+use lib.ListN as ListN
 use borrow.Author.Needs.{needs}
 use Rattle.replay.proofs.main.Statement.{statement}
 use Rattle.replay.proofs.main.Tie as tie
 
 abbrev Inv-loop : tie.InvT-loop
-Inv-loop turns₀ turns = Unit {0}
+Inv-loop stream₀ length₀ turns₀ stream length turns = 4096 ≡ ListN.length stream
 
 abbrev μ-loop : tie.MeasureT-loop
-μ-loop turns₀ turns = turns
+μ-loop stream₀ length₀ turns₀ stream length turns = turns
+
+buffer-requires : tie.Need-buffer-requires Inv-loop μ-loop
+buffer-requires c κs = search needs
 
 loop-holds : tie.Need-loop-holds Inv-loop μ-loop
-loop-holds c = tt
+loop-holds c = search needs
+
+slice-aggregate-one : tie.Need-slice-aggregate-one Inv-loop μ-loop
+slice-aggregate-one c = search needs
 
 one-requires : tie.Need-one-requires Inv-loop μ-loop
 one-requires c κs = search needs
@@ -22,7 +30,7 @@ loop-less : tie.Need-loop-less Inv-loop μ-loop
 loop-less c = search needs
 
 loop-again : tie.Need-loop-again Inv-loop μ-loop
-loop-again c = tt
+loop-again c = search needs
 
 returns : tie.Need-returns Inv-loop μ-loop
 returns c = search needs
@@ -36,7 +44,9 @@ main-spec =
     (tie.spec
     Inv-loop
     μ-loop
+    buffer-requires
     loop-holds
+    slice-aggregate-one
     one-requires
     sub-turns
     loop-less

@@ -20,8 +20,8 @@ array-read-wide c = search needs
 wide-requires : tie.Need-wide-requires
 wide-requires c κs = search needs
 
-mul-length : tie.Need-mul-length
-mul-length c = search needs
+mul-size : tie.Need-mul-size
+mul-size c = search needs
 
 array-read-wide-2 : tie.Need-array-read-wide-2
 array-read-wide-2 c = search needs
@@ -29,8 +29,8 @@ array-read-wide-2 c = search needs
 wide-requires-2 : tie.Need-wide-requires-2
 wide-requires-2 c κs = search needs
 
-add-length : tie.Need-add-length
-add-length c = search needs
+add-size : tie.Need-add-size
+add-size c = search needs
 
 buffer-requires : tie.Need-buffer-requires
 buffer-requires c κs = search needs
@@ -50,11 +50,20 @@ filled-requires-2 c κs = search needs
 returns-3 : tie.Need-returns-3
 returns-3 c = search needs
 
-array-read-answer : tie.Need-array-read-answer
-array-read-answer c = search needs
+array-read-letter : tie.Need-array-read-letter
+array-read-letter c = search needs
 
-answer-requires : tie.Need-answer-requires
-answer-requires c κs = search needs
+letter-requires : tie.Need-letter-requires
+letter-requires c κs = search needs
+
+answered-requires : tie.Need-answered-requires
+answered-requires c κs = search needs
+
+line-end-requires : tie.Need-line-end-requires
+line-end-requires c κs = search needs
+
+same-length : tie.Need-same-length
+same-length c = search needs
 
 returns-4 : tie.Need-returns-4
 returns-4 c = search needs
@@ -68,16 +77,19 @@ one-spec =
     returns
     array-read-wide
     wide-requires
-    mul-length
+    mul-size
     array-read-wide-2
     wide-requires-2
-    add-length
+    add-size
     buffer-requires
     returns-2
     array-borrow-prefix-space
     slice-aggregate-case
     filled-requires-2
     returns-3
-    array-read-answer
-    answer-requires
+    array-read-letter
+    letter-requires
+    answered-requires
+    line-end-requires
+    same-length
     returns-4)

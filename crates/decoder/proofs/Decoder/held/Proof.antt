@@ -1,0 +1,17 @@
+-- `decoder::Decoder::held` meets its contract. Assumes nothing.
+use borrow.Author.Needs.{needs}
+use Rattle.decoder.proofs.States.{held-line}
+use Rattle.decoder.proofs.Decoder.held.Statement.{statement}
+use Rattle.decoder.proofs.Decoder.held.Tie as tie
+
+settled-requires : tie.Need-settled-requires
+settled-requires c κs = search needs
+
+sub-result : tie.Need-sub-result
+sub-result c = search needs
+
+returns : tie.Need-returns
+returns c = held-line (c .before .settled .result) _ (c .before .settled .ensures)
+
+pub held-spec : {M : Type 1} → statement M
+held-spec = tie.close (tie.spec settled-requires sub-result returns)

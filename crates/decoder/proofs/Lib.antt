@@ -1,0 +1,7 @@
+pub mod Copying
+pub mod States
+pub mod Judging
+pub mod Seeking
+pub mod Unique
+pub mod DemandThree
+pub mod OldLoss

@@ -1,0 +1,273 @@
+// The stream: bytes are fed in pieces, and the frames among them come out as replies. Ports
+// src/decoder.rs at its default capacity of 512 bytes; document 01, "The stream". The state goes in by
+// value and comes back beside what the call answers. The line figures are added. Assumes nothing.
+ghost use mathlib.Core.Path.{_≡_};
+ghost use Prim.Native.Nat.{_+_, _-_, _≤_};
+ghost use lib.ListN.{length, drop};
+ghost use lib.Seq.{paste};
+ghost use Rattle.reading.specs.Searching.{search};
+ghost use Rattle.line.specs.Line.{fresh, atMost, raised, moved, cleared, fitting, copied};
+ghost use Rattle.envelope.specs.Envelope.{payloadOf};
+ghost use Rattle.reply.specs.Reply.{replyOf};
+ghost use Rattle.decoder.specs.Frames.{frames};
+ghost use Rattle.decoder.specs.State.{lineOf, Sound, Holds, FeedIs, NextIs, heldOf, figuresOf, searchOf};
+use envelope::Judged;
+use reply::CommandReply;
+
+pub struct Decoder {
+    pub buf: [u8; 512],
+    pub rpos: usize,
+    pub wpos: usize,
+    pub fed: u64,
+    pub handed: u64,
+    pub passed: u64,
+}
+
+// The answer of `feed`: the bytes taken.
+pub struct Fed {
+    pub count: usize,
+    pub decoder: Decoder,
+}
+
+// The answer of `next`. Where nothing is given the count is 0 and the reply the empty one.
+pub struct Next {
+    pub given: bool,
+    pub count: usize,
+    pub reply: CommandReply,
+    pub decoder: Decoder,
+}
+
+// The line figures.
+pub struct Figures {
+    pub fed: u64,
+    pub handed: u64,
+    pub passed: u64,
+    pub held: usize,
+}
+
+// Where a search of the unread bytes ends: the bytes moved over, and the count of a good frame.
+enum Sought {
+    Found(usize, usize),
+    Nothing(usize),
+}
+
+const FRAME_START_SHORT: u8 = 2;
+
+const TOP: u64 = 18446744073709551615;
+
+// A figure, `n` higher, held at the top value.
+fn raise(figure: u64, n: usize) -> u64
+    ensures { λ r. ⌜ r ≡ raised figure n ⌝ }
+{
+    let more = n as u64;
+    if TOP - figure < more {
+        TOP
+    } else {
+        figure + more
+    }
+}
+
+fn at_most(room: usize, n: usize) -> usize
+    ensures { λ r. ⌜ r ≡ atMost room n ⌝ }
+{
+    if room < n { room } else { n }
+}
+
+// Moves `n` bytes from `from` to the front.
+fn move_to_front(buf: &mut [u8; 512], from: usize, n: usize)
+    requires { ⌜ (length (now buf) ≡ 512) × (from + n ≤ 512) ⌝ }
+    ensures { λ _. ⌜ now (buf .exit) ≡ paste (now (buf .entry)) 0 (drop from (now (buf .entry))) n ⌝ }
+{
+    let mut to: usize = 0;
+    while to < n {
+        buf[to] = buf[from + to];
+        to += 1;
+    }
+}
+
+// Writes the first `n` bytes of the piece at `at`.
+fn copy_in(buf: &mut [u8; 512], at: usize, piece: &[u8], n: usize)
+    requires { ⌜ (length (now buf) ≡ 512) × (at + n ≤ 512) × (n ≤ length (now piece)) ⌝ }
+    ensures { λ _. ⌜ now (buf .exit) ≡ paste (now (buf .entry)) at (now (piece .entry)) n ⌝ }
+{
+    let mut i: usize = 0;
+    while i < n {
+        buf[at + i] = piece[i];
+        i += 1;
+    }
+}
+
+// A byte that starts no frame is not given to `judge`, so that noise costs a comparison.
+fn seek(unread: &[u8]) -> Sought
+    ensures { λ r. ⌜ searchOf (now (unread .entry)) r ≡ search frames (now (unread .entry)) ⌝ }
+{
+    let mut over: usize = 0;
+    while over < unread.len() {
+        if unread[over] == FRAME_START_SHORT {
+            match envelope::judge(&unread[over..]) {
+                Judged::Good(count) => return Sought::Found(over, count),
+                Judged::Refused(error) => {
+                    if error.number() == 1 {
+                        return Sought::Nothing(over);
+                    }
+                }
+            }
+        }
+        over += 1;
+    }
+    Sought::Nothing(over)
+}
+
+// The reply of the good frame that `seek` found: its payload part goes to the field readers.
+fn reply_at(unread: &[u8], over: usize, count: usize) -> CommandReply
+    requires { ⌜ (6 ≤ count) × (over + count ≤ length (now unread)) ⌝ }
+    ensures { λ r. ⌜ r ≡ replyOf (payloadOf (count - 5) (drop over (now (unread .entry)))) ⌝ }
+{
+    let start = over + 2;
+    let end = over + count - 3;
+    reply::unpack_from(&unread[start..end])
+}
+
+impl Decoder {
+    pub fn new() -> Decoder
+        ensures { λ r. ⌜ Holds fresh r ⌝ }
+    {
+        let buf = [0u8; 512];
+        Decoder {
+            buf,
+            rpos: 0,
+            wpos: 0,
+            fed: 0,
+            handed: 0,
+            passed: 0,
+        }
+    }
+
+    // A state that no calls can make is taken as a fresh one.
+    fn settled(self) -> Decoder
+        ensures { λ r. ⌜ Holds (lineOf self) r ⌝ }
+    {
+        if 512 < self.wpos {
+            return Decoder::new();
+        }
+        if self.wpos < self.rpos {
+            return Decoder::new();
+        }
+        self
+    }
+
+    fn moved(mut self, n: usize) -> Decoder
+        requires { ⌜ Sound self ⌝ }
+        ensures { λ r. ⌜ Holds (moved n (lineOf self)) r ⌝ }
+    {
+        let rpos = self.rpos;
+        let wpos = self.wpos;
+        if 512 - wpos < n {
+            let unread = wpos - rpos;
+            move_to_front(&mut self.buf, rpos, unread);
+            self.rpos = 0;
+            self.wpos = unread;
+            return self;
+        }
+        self
+    }
+
+    // As in the Rust, also where an empty piece is fed and the tail is full.
+    fn cleared(mut self) -> Decoder
+        requires { ⌜ Sound self ⌝ }
+        ensures { λ r. ⌜ Holds (cleared (lineOf self)) r ⌝ }
+    {
+        let rpos = self.rpos;
+        let wpos = self.wpos;
+        if wpos == 512 {
+            let passed = raise(self.passed, wpos - rpos);
+            self.passed = passed;
+            self.rpos = 0;
+            self.wpos = 0;
+            return self;
+        }
+        self
+    }
+
+    fn copied(mut self, piece: &[u8]) -> Fed
+        requires { ⌜ Sound self ⌝ }
+        ensures { λ r. ⌜ (r .count ≡ fitting (length (now (piece .entry))) (lineOf self)) × Holds (copied (now (piece .entry)) (r .count) (lineOf self)) (r .decoder) ⌝ }
+    {
+        let wpos = self.wpos;
+        let offered = piece.len();
+        let taken = at_most(512 - wpos, offered);
+        copy_in(&mut self.buf, wpos, piece, taken);
+        let fed = raise(self.fed, taken);
+        self.fed = fed;
+        self.wpos = wpos + taken;
+        Fed {
+            count: taken,
+            decoder: self,
+        }
+    }
+
+    // Takes as much of the piece as fits. What is not taken is to be fed again.
+    pub fn feed(self, piece: &[u8]) -> Fed
+        ensures { λ r. ⌜ FeedIs self (now (piece .entry)) r ⌝ }
+    {
+        self.settled().moved(piece.len()).cleared().copied(piece)
+    }
+
+    // The next reply among the unread bytes, if a whole frame is there.
+    pub fn next(self) -> Next
+        ensures { λ r. ⌜ NextIs self r ⌝ }
+    {
+        let mut decoder = self.settled();
+        let buf = decoder.buf;
+        let rpos = decoder.rpos;
+        let wpos = decoder.wpos;
+        match seek(&buf[rpos..wpos]) {
+            Sought::Found(over, count) => {
+                let reply = reply_at(&buf[rpos..wpos], over, count);
+                let handed = raise(decoder.handed, count);
+                let passed = raise(decoder.passed, over);
+                decoder.handed = handed;
+                decoder.passed = passed;
+                decoder.rpos = rpos + over + count;
+                Next {
+                    given: true,
+                    count,
+                    reply,
+                    decoder,
+                }
+            }
+            Sought::Nothing(over) => {
+                let reply = reply::empty();
+                let passed = raise(decoder.passed, over);
+                decoder.passed = passed;
+                decoder.rpos = rpos + over;
+                Next {
+                    given: false,
+                    count: 0,
+                    reply,
+                    decoder,
+                }
+            }
+        }
+    }
+
+    // The bytes unread now.
+    pub fn held(self) -> usize
+        ensures { λ r. ⌜ r ≡ heldOf (lineOf self) ⌝ }
+    {
+        let decoder = self.settled();
+        decoder.wpos - decoder.rpos
+    }
+
+    pub fn figures(self) -> Figures
+        ensures { λ r. ⌜ r ≡ figuresOf (lineOf self) ⌝ }
+    {
+        let decoder = self.settled();
+        Figures {
+            fed: decoder.fed,
+            handed: decoder.handed,
+            passed: decoder.passed,
+            held: decoder.wpos - decoder.rpos,
+        }
+    }
+}

@@ -1,0 +1,45 @@
+-- `replay::streams::drain` meets its contract. Assumes nothing.
+use borrow.Author.Needs.{needs}
+use Rattle.replay.proofs.streams.drain.Statement.{statement}
+use Rattle.replay.proofs.streams.drain.Tie as tie
+
+abbrev Inv-loop : tie.InvT-loop
+Inv-loop run₀ turns₀ run turns = Unit {0}
+
+abbrev μ-loop : tie.MeasureT-loop
+μ-loop run₀ turns₀ run turns = turns
+
+loop-holds : tie.Need-loop-holds Inv-loop μ-loop
+loop-holds c = tt
+
+next-requires : tie.Need-next-requires Inv-loop μ-loop
+next-requires c κs = search needs
+
+returns : tie.Need-returns Inv-loop μ-loop
+returns c = search needs
+
+sub-turns : tie.Need-sub-turns Inv-loop μ-loop
+sub-turns c = search needs
+
+loop-less : tie.Need-loop-less Inv-loop μ-loop
+loop-less c = search needs
+
+loop-again : tie.Need-loop-again Inv-loop μ-loop
+loop-again c = tt
+
+returns-2 : tie.Need-returns-2 Inv-loop μ-loop
+returns-2 c = search needs
+
+pub drain-spec : {M : Type 1} → statement M
+drain-spec =
+    tie.close
+    (tie.spec
+    Inv-loop
+    μ-loop
+    loop-holds
+    next-requires
+    returns
+    sub-turns
+    loop-less
+    loop-again
+    returns-2)
