@@ -1,9 +1,11 @@
 # The two commands of README.md: `make run` does the main job, `make test` is the gate.
-.PHONY: run test fmt answers
+.PHONY: run test fmt
 
+# Standard input through vescline, or a stored line's bytes where there is none: make run < capture
 run:
-	@rt check vectors
-	@target/bin/vectors
+	@rt check vescline > target-run.log 2>&1 || { cat target-run.log; rm -f target-run.log; exit 1; }
+	@rm -f target-run.log
+	@if [ -t 0 ]; then target/bin/vescline < crates/vescline/stdin; else target/bin/vescline; fi
 
 # The very last line is that of `rt ci`: N passed, 0 failed.
 test:
@@ -13,8 +15,27 @@ test:
 fmt:
 	@rt fmt
 
-# Makes the stored cases and the Rust's answers to them anew (needs cargo and Debian's packages; see oracle/README.md).
-answers:
+# What follows asks the Rust, and needs cargo and Debian's packages: oracle/README.md.
+.PHONY: oracle answers compare speed
+
+oracle:
 	@oracle/setup
 	@cd oracle/answers && cargo build --release --offline --quiet
+
+# Makes the stored cases and the Rust's answers to them anew.
+answers: oracle
 	@target/oracle/build/release/answers crates/replay numbers commands replies streams
+
+# Compares with the Rust over fresh random cases: make compare SEED=7 DECODES=2000000 ENCODES=200000 STREAMS=20000
+SEED ?= 1
+DECODES ?= 20000
+ENCODES ?= 2000
+STREAMS ?= 200
+compare: oracle
+	@rt check replay
+	@target/oracle/build/release/answers compare $(SEED) $(DECODES) $(ENCODES) $(STREAMS) target/bin/replay
+
+# Times vescline against the Rust: docs/SPEED.md.
+speed: oracle
+	@rt check vescline
+	@oracle/speed

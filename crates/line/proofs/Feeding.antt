@@ -9,7 +9,7 @@ use borrow.Author.Tests.{ltb-false, lt-ltb, le-ltb, eq-eqb, ne-eqb}
 use lib.Dec.{ltb}
 use lib.ListN.{length, take, length-append}
 use lib.Seq.{length-take-le, take-length}
-use Rattle.line.specs.Line.{Line, choose, atMost, raised, moved, cleared, fitting, copied, feedCount, feedLine}
+use Rattle.line.specs.Line.{Line, choose, atMost, atFront, moved, emptied, cleared, fitting, copied, feedCount, feedLine}
 use Rattle.line.proofs.Figures.{held, held-under}
 
 -- Two lines with the same fields.
@@ -18,8 +18,7 @@ line-same a b u w f h p = λ i. record { unread = u i; wpos = w i; fed = f i; ha
 
 -- ---- the parts of `feed`, by the test that a program makes
 
-pub moved-when : (n : ℕ) (line : Line) → 512 - line .wpos < n
-    → moved n line ≡ record { unread = line .unread; wpos = length (line .unread); fed = line .fed; handed = line .handed; passed = line .passed }
+pub moved-when : (n : ℕ) (line : Line) → 512 - line .wpos < n → moved n line ≡ atFront line
 unfolding moved
 moved-when n line h = simp (lt-ltb _ _ h)
 
@@ -27,8 +26,7 @@ pub moved-not : (n : ℕ) (line : Line) → n ≤ 512 - line .wpos → moved n l
 unfolding moved
 moved-not n line h = simp (le-ltb _ _ h)
 
-pub cleared-when : (line : Line) → line .wpos ≡ 512
-    → cleared line ≡ record { unread = []; wpos = 0; fed = line .fed; handed = line .handed; passed = raised (line .passed) (length (line .unread)) }
+pub cleared-when : (line : Line) → line .wpos ≡ 512 → cleared line ≡ emptied line
 unfolding cleared
 cleared-when line h = simp (eq-eqb _ _ h)
 
@@ -50,9 +48,9 @@ record Free (line ready : Line) : Type 0 where
   room : ready .wpos < 512
 
 free-by : (line : Line) (n : ℕ) (b : Bool) → ltb (512 - line .wpos) n ≡ b → 0 < n → length (line .unread) < 512 → Fits line
-    → Free line (cleared (choose b (record { unread = line .unread; wpos = length (line .unread); fed = line .fed; handed = line .handed; passed = line .passed }) line))
+    → Free line (cleared (choose b (atFront line) line))
 free-by line n true e some short fits =
-    let kept = cleared-not (record { unread = line .unread; wpos = length (line .unread); fed = line .fed; handed = line .handed; passed = line .passed }) (λ q. omega arith) in
+    let kept = cleared-not (atFront line) (λ q. omega arith) in
     rw kept (record { same = refl; low = le-refl _; room = short })
 free-by line n false e some short fits =
     let tail : n ≤ 512 - line .wpos = ltb-false _ _ e in
@@ -102,7 +100,7 @@ unfolding feedLine copied moved
 full-clears line piece all end = ap (λ (l : List ℕ). l ++ take (feedCount line piece) piece) (by (ltb (512 - line .wpos) (length piece)))
   where
     by : (b : Bool)
-        → cleared (choose b (record { unread = line .unread; wpos = length (line .unread); fed = line .fed; handed = line .handed; passed = line .passed }) line) .unread ≡ []
+        → cleared (choose b (atFront line) line) .unread ≡ []
     by true = ap (λ (l : Line). l .unread) (cleared-when _ all)
     by false = ap (λ (l : Line). l .unread) (cleared-when _ end)
 

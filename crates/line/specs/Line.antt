@@ -37,19 +37,21 @@ raised figure n = atMost top (figure + n)
 
 -- 1. `feed`
 
--- "if the piece is longer than the free tail, unread bytes move to the front": n is the length of the piece
-unfoldable pub moved : ℕ → Line → Line
-moved n line =
-    choose (ltb (512 - line .wpos) n)
-    (record { unread = line .unread; wpos = length (line .unread); fed = line .fed; handed = line .handed; passed = line .passed })
-    line
+-- "unread bytes move to the front"
+abbrev pub atFront : Line → Line
+atFront line = record { unread = line .unread; wpos = length (line .unread); fed = line .fed; handed = line .handed; passed = line .passed }
 
--- "If the buffer is then filled to its end, everything unread is cleared"; passed: "the unread bytes at each clearing"
+-- "if the piece is longer than the free tail": n is the length of the piece
+unfoldable pub moved : ℕ → Line → Line
+moved n line = choose (ltb (512 - line .wpos) n) (atFront line) line
+
+-- "everything unread is cleared"; passed: "the unread bytes at each clearing"
+abbrev pub emptied : Line → Line
+emptied line = record { unread = []; wpos = 0; fed = line .fed; handed = line .handed; passed = raised (line .passed) (length (line .unread)) }
+
+-- "If the buffer is then filled to its end"
 unfoldable pub cleared : Line → Line
-cleared line =
-    choose (eqb (line .wpos) 512)
-    (record { unread = []; wpos = 0; fed = line .fed; handed = line .handed; passed = raised (line .passed) (length (line .unread)) })
-    line
+cleared line = choose (eqb (line .wpos) 512) (emptied line) line
 
 -- "as much as fits"
 unfoldable pub fitting : ℕ → Line → ℕ

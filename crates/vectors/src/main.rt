@@ -1,7 +1,8 @@
 // Runs the vectors of the public documents that are not proved, and prints what comes: the catalogue's
 // check value of CRC-16/XMODEM, document 01's two readings past 2^24, and those of its frames that it
-// does not mark P. The last line of commands is an encode behind a million hops.
+// does not mark P, an encode behind a million hops and its worked stream among them.
 mod frames;
+mod stream;
 
 use libc::STDOUT_FILENO;
 
@@ -29,4 +30,5 @@ fn main() {
     frames::million_hops();
     frames::name_in_fw_version();
     frames::name_in_fw_info();
+    stream::worked();
 }

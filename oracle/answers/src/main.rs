@@ -2,6 +2,10 @@
 //!
 //!     answers FOLDER BLOCK..     writes FOLDER/stdin (the cases) and FOLDER/stdout (the Rust's answers)
 //!
+//!     answers compare SEED DECODES ENCODES STREAMS PROGRAM     fresh random cases, asked of the Rust and of our PROGRAM
+//!     answers traffic BYTES FILE                                so many bytes of frames and noise
+//!     answers line                                              the Rust's decoder in the place of `vescline`
+//!
 //! A case is a letter, a length (16 bits, big-endian) and so many bytes. The answers are text, a line a case; each
 //! block's file says what stands in its lines. Everything is made from fixed seeds: the same files each time.
 
@@ -12,6 +16,8 @@ mod packer;
 pub use vesc::{DecodeError, EncodeError};
 
 mod commands;
+mod compare;
+mod line;
 mod numbers;
 mod replies;
 mod streams;
@@ -86,6 +92,12 @@ pub fn number(error: &DecodeError) -> u8 {
 
 fn main() {
     let args: Vec<String> = std::env::args().collect();
+    match args.get(1).map(String::as_str) {
+        Some("compare") => return compare::run(&args[2..]),
+        Some("traffic") => return line::traffic(&args[2..]),
+        Some("line") => return line::run(),
+        _ => {}
+    }
     let (Some(folder), true) = (args.get(1), args.len() > 2) else {
         eprintln!("usage: answers FOLDER BLOCK..   the blocks: numbers commands replies streams");
         std::process::exit(2);

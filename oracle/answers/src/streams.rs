@@ -133,25 +133,44 @@ fn stream(random: &mut Random, length: usize) -> Vec<u8> {
     all
 }
 
+/// A size of pieces (0: drawn), and how they are fed.
+const CUTTINGS: [(usize, u8); 12] =
+    [(1, 1), (7, 1), (110, 1), (511, 1), (512, 1), (513, 1), (0, 1), (0, 0), (0, 3), (0, 2), (512, 2), (256, 3)];
+
+/// The k-th stream.
+fn load(block: &mut Block, random: &mut Random, k: usize) -> Vec<u8> {
+    let length = match k % 4 {
+        0 => 1 + random.below(700),
+        1 => 500 + random.below(100),
+        _ => 600 + random.below(900),
+    };
+    let stream = stream(random, length);
+    block.case(b'L', &stream, &format!("loaded {length}"));
+    stream
+}
+
 /// So many streams, each in every cutting.
+pub fn block() -> Block {
+    let mut block = Block::default();
+    let mut random = Random(0x5EED_0005);
+    for k in 0..500 {
+        let stream = load(&mut block, &mut random, k);
+        for (size, how) in CUTTINGS {
+            let seed = random.next() as u32;
+            cut(&mut block, &stream, size, seed, how);
+        }
+    }
+    block
+}
+
+/// So many streams, each in two cuttings.
 pub fn some(block: &mut Block, random: &mut Random, count: usize) {
     for k in 0..count {
-        let length = match k % 4 {
-            0 => 1 + random.below(700),
-            1 => 500 + random.below(100),
-            _ => 600 + random.below(900),
-        };
-        let stream = stream(random, length);
-        block.case(b'L', &stream, &format!("loaded {length}"));
-        for (size, how) in [(1usize, 1u8), (7, 1), (110, 1), (511, 1), (512, 1), (513, 1), (0, 1), (0, 0), (0, 3), (0, 2), (512, 2), (256, 3)] {
+        let stream = load(block, random, k);
+        for _ in 0..2 {
+            let (size, how) = CUTTINGS[random.below(CUTTINGS.len())];
             let seed = random.next() as u32;
             cut(block, &stream, size, seed, how);
         }
     }
-}
-
-pub fn block() -> Block {
-    let mut block = Block::default();
-    some(&mut block, &mut Random(0x5EED_0005), 500);
-    block
 }
