@@ -8,7 +8,7 @@ abbrev Inv-loop : tie.InvT-loop
 Inv-loop decoder₀ fed₀ t8 decoder fed = Unit {0}
 
 abbrev μ-loop : tie.MeasureT-loop
-P0 - fed
+μ-loop decoder₀ fed₀ t8 decoder fed = 200 - fed
 
 loop-holds : tie.Need-loop-holds Inv-loop μ-loop
 loop-holds c = tt
