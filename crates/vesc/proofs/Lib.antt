@@ -1,1 +1,2 @@
 pub mod PFrames
+pub mod Demands

@@ -1,5 +1,5 @@
-// The names that a caller uses. Ports src/lib.rs: encode commands, decode replies. A caller of the types lists their
-// crates too. specs/Frames.antt has document 01's proved frames as one table. Assumes nothing.
+// The names that a caller uses. Ports src/lib.rs: encode commands, decode replies, decode a stream. A caller of the types
+// lists their crates too. specs/Frames.antt has document 01's proved frames as one table. Assumes nothing.
 pub use command::Command;
 pub use command::CommandId;
 pub use command::Encoded;
@@ -7,6 +7,10 @@ pub use command::StatsMask;
 pub use command::ValuesMask;
 pub use command::ValuesSetupMask;
 pub use command::encode;
+pub use decoder::Decoder;
+pub use decoder::Fed;
+pub use decoder::Figures;
+pub use decoder::Next;
 pub use envelope::Judged;
 pub use envelope::judge;
 pub use firmware::FwInfo;

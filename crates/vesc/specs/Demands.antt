@@ -1,0 +1,102 @@
+-- The three demands of the person we build for, each with its words, as records whose fields are the claims. They are stated of the definitions that the
+-- contracts of the public functions equal; proofs/Demands.antt has one of each. Assumes nothing.
+use mathlib.Core.Path.{_≡_}
+use mathlib.Core.Bool.{true}
+use mathlib.Core.Logic.{_↔_}
+use mathlib.Core.List.{List, [], _∷_, _++_}
+use Prim.Native.Nat.{ℕ, _+_, _*_, _^_, _≤_, _<_}
+use lib.IntN.{ℤ}
+use lib.ListN.{length, getD, take, drop}
+use Rattle.refusals.specs.Refusals.{Refusal, Answer, given, refused, incompleteData, invalidFrame, unknownPacket, checksumMismatch, bufferTooSmall, payloadTooLong}
+use Rattle.refusals.specs.declared.EncodeError.{EncodeError}
+use Rattle.checksum.specs.Xmodem.{checksumOf, registerOf}
+use Rattle.floats.specs.Near.{ReadingNear, size}
+use Rattle.text.specs.Utf8.{wellFormed, WellFormed}
+use Rattle.packer.specs.Numbers.{beAt}
+use Rattle.command.specs.Commands.{payloadOf}
+use Rattle.command.specs.Encode.{Encodes, encoded}
+use Rattle.command.specs.declared.Command.{Command}
+use Rattle.command.specs.declared.Encoded.{Encoded}
+use Rattle.command.specs.declared.Encoded.the-variants.{Refused}
+use Rattle.envelope.specs.Envelope.{fieldsEnd, payloadOf as framePayload}
+use Rattle.reply.specs.Decode.{decodeOf}
+use Rattle.reply.specs.Reply.{emptyReply}
+use Rattle.reply.specs.declared.CommandReply.{CommandReply}
+use Rattle.reading.specs.Reading.{reading, repliesOf, joined, takes}
+use Rattle.reading.specs.Lateness.{NoneOver}
+use Rattle.line.specs.Line.{fresh}
+use Rattle.line.specs.Playing.{played, Nonempty, GivenSoFar, offerTurns}
+use Rattle.decoder.specs.Frames.{frames}
+
+-- "1. No call traps, hangs or relies on its caller. IncompleteData, InvalidFrame, UnknownPacket, ChecksumMismatch, BufferTooSmall and PayloadTooLong come exactly when
+-- document 01 says. A refused encode writes nothing."
+-- That no call traps, hangs or relies on its caller is what the check of each crate proves: no public function has a `requires`. Of each way out below the
+-- conditions exclude each other and leave none out, so each refusal comes exactly there.
+
+-- whatever `encode` answers, for every command, hops and buffer: r, with `after` in the buffer
+pub record EncodeRefuses (command : Command) (hops buffer : List ℕ) (r : Encoded) (after : List ℕ) : Type 0 where
+  pub too-long : 255 < length (payloadOf command hops) → encoded r ≡ refused payloadTooLong
+  pub too-small : length (payloadOf command hops) ≤ 255 → length buffer < length (payloadOf command hops) + 5 → encoded r ≡ refused bufferTooSmall
+  pub fits : length (payloadOf command hops) ≤ 255 → length (payloadOf command hops) + 5 ≤ length buffer → encoded r ≡ given (length (payloadOf command hops) + 5)
+  pub unchanged : (e : EncodeError) → r ≡ Refused e → after ≡ buffer
+
+-- the sum that a frame carries, and that of its payload; the length byte says where they are
+abbrev pub carried : List ℕ → ℕ
+carried s = beAt s (getD s 1 0 + 2) 2
+
+abbrev pub summed : List ℕ → ℕ
+summed s = checksumOf (framePayload (getD s 1 0) s)
+
+-- the start byte is right, and the fields end where the length byte says
+pub record Fields (s : List ℕ) : Type 0 where
+  pub there : 2 < length s
+  pub start : getD s 0 0 ≡ 2
+  pub read : fieldsEnd (getD s 2 0) (drop 2 s) 1 ≡ given (getD s 1 0)
+
+-- what `decode` answers to a slice s, in document 01's order; n is the length byte, and the fields are read from byte 2 on
+pub record DecodeRefuses (s : List ℕ) : Type 0 where
+  pub no-start : length s ≤ 0 → decodeOf s .answer ≡ refused incompleteData
+  pub start-wrong : 0 < length s → (getD s 0 0 ≡ 2 → ⊥) → decodeOf s .answer ≡ refused invalidFrame
+  pub no-length : 0 < length s → getD s 0 0 ≡ 2 → length s ≤ 1 → decodeOf s .answer ≡ refused incompleteData
+  pub no-id : 1 < length s → getD s 0 0 ≡ 2 → length s ≤ 2 → decodeOf s .answer ≡ refused incompleteData
+  -- an id that is no reply's, a field past the end, or a name without NUL
+  pub fields-wrong : 2 < length s → getD s 0 0 ≡ 2 → (why : Refusal) → fieldsEnd (getD s 2 0) (drop 2 s) 1 ≡ refused why → decodeOf s .answer ≡ refused why
+  pub length-wrong : 2 < length s → getD s 0 0 ≡ 2 → (read : ℕ) → fieldsEnd (getD s 2 0) (drop 2 s) 1 ≡ given read → (getD s 1 0 ≡ read → ⊥)
+      → decodeOf s .answer ≡ refused invalidFrame
+  -- the fields end where the length byte says, after n bytes; then "two checksum bytes; end byte (2); checksum (4)"
+  pub no-end : Fields s → length s < getD s 1 0 + 5 → decodeOf s .answer ≡ refused incompleteData
+  pub end-wrong : Fields s → getD s 1 0 + 5 ≤ length s → (getD s (getD s 1 0 + 4) 0 ≡ 3 → ⊥) → decodeOf s .answer ≡ refused invalidFrame
+  pub sum-wrong : Fields s → getD s 1 0 + 5 ≤ length s → getD s (getD s 1 0 + 4) 0 ≡ 3 → (carried s ≡ summed s → ⊥)
+      → decodeOf s .answer ≡ refused (checksumMismatch (carried s) (summed s))
+  pub good : Fields s → getD s 1 0 + 5 ≤ length s → getD s (getD s 1 0 + 4) 0 ≡ 3 → carried s ≡ summed s → decodeOf s .answer ≡ given (getD s 1 0 + 5)
+  -- "all of them on a refusal": the reply is then the empty one
+  pub empty : (why : Refusal) → decodeOf s .answer ≡ refused why → decodeOf s .reply ≡ emptyReply
+
+pub record DemandOne : Type 0 where
+  pub encode : (command : Command) (hops buffer : List ℕ) (r : Encoded) (after : List ℕ) → Encodes command hops buffer r after → EncodeRefuses command hops buffer r after
+  pub decode : (s : List ℕ) → DecodeRefuses s
+
+-- "2. Within document 01's domain, bytes, readings and refusals equal the Rust's. Checksum, float rounding and name text are proved against CRC-16/XMODEM, IEEE 754 and Unicode."
+-- Bytes, readings and refusals equal the definitions that the contracts cite (docs/PROMISES.md); that the Rust's are the same is run, not proved. The sum is the remainder of long division by
+-- definition; a whole number becomes the nearest binary32 by `lib.Ieee`'s definition.
+pub record DemandTwo : Type 0 where
+  -- the catalogue's register gives the same sum, and the catalogue's check value is met
+  pub checksum : (message : List ℕ) → registerOf message ≡ checksumOf message
+  pub check-value : checksumOf (0x31 ∷ 0x32 ∷ 0x33 ∷ 0x34 ∷ 0x35 ∷ 0x36 ∷ 0x37 ∷ 0x38 ∷ 0x39 ∷ []) ≡ 0x31C3
+  -- "for raw r and scale s the reading is within |r|/s divided by 2^22 of r/s"
+  pub rounding : (raw : ℤ) (scale : ℕ) → size raw ≤ 2 ^ 31 → 0 < scale → scale ≤ 2 ^ 24 → ReadingNear raw scale
+  -- Unicode's table 3-7
+  pub text : (bytes : List ℕ) → (wellFormed bytes ≡ true) ↔ WellFormed bytes
+
+-- "3. Start the streaming decoder fresh. Hand it nonempty pieces, after each ask until it has no reply, and offer again what it did not take. Then for every stream and every such cutting the replies are those of one
+-- left-to-right reading of the uncut stream, in order and no others. A good frame overlapped by no earlier frame of that reading is given, however damaged the bytes before it, once 109 bytes counted from its
+-- first, or its own last byte if that is later, have been taken in and asked for."
+-- `played` is `feed` and `next` as their contracts define them; `reading` is defined from `decode` alone.
+pub record DemandThree : Type 0 where
+  pub replies : (pieces : List (List ℕ)) → Nonempty pieces → played frames emptyReply fresh pieces .replies ≡ repliesOf (reading frames (joined pieces) .given)
+  pub taken : (pieces : List (List ℕ)) (piece : List ℕ) → Nonempty pieces → 0 < length piece
+      → offerTurns frames emptyReply (length piece) (played frames emptyReply fresh pieces .line) piece .left ≡ []
+  pub in-time : (pieces : List (List ℕ)) (later : List ℕ) (p n : ℕ) (reply : CommandReply) → Nonempty pieces
+      → frames (take n (drop p (joined pieces ++ later))) ≡ takes n reply → NoneOver p (reading frames (joined pieces ++ later) .given)
+      → p + n ≤ length (joined pieces) → p + 109 ≤ length (joined pieces)
+      → GivenSoFar p n reply (reading frames (joined pieces ++ later) .given) (played frames emptyReply fresh pieces .replies)
