@@ -1,0 +1,7 @@
+pub mod Places
+pub mod Steps
+pub mod Thin
+pub mod Contracts
+pub mod Walk
+pub mod WalkScaled
+pub mod Unique
