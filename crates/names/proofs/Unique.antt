@@ -1,26 +1,19 @@
 -- What a scan and a name answer is the only answer. Assumes nothing.
 use mathlib.Core.Path.{_≡_, refl, ap, _∙_}
-use mathlib.Core.List.{List}
-use Prim.Native.Nat.{ℕ}
-use Rattle.refusals.specs.Refusals.{Answer, given, refused}
-use Rattle.refusals.proofs.Unique.{told-apart, decodeBack, decode-back}
+use Rattle.refusals.proofs.Unique.{told-apart, readBack, decode-back}
 use Rattle.names.specs.Names.{Name, scanned, named39, named47}
 use Rattle.names.specs.declared.Scan.{Scan}
 use Rattle.names.specs.declared.Scan.the-variants.{Found, Refused}
 use Rattle.names.specs.declared.Name39.{Name39}
 use Rattle.names.specs.declared.Name47.{Name47}
 
-scanBack : Answer ℕ → Scan
-scanBack (given next) = Found next
-scanBack (refused why) = Refused (decodeBack why)
-
-scan-back : (a : Scan) → scanBack (scanned a) ≡ a
-unfolding scanBack
+scan-back : (a : Scan) → readBack Found Refused (scanned a) ≡ a
+unfolding readBack
 scan-back (Found next) = refl
 scan-back (Refused e) = ap Refused (decode-back e)
 
 pub scan-unique : (a b : Scan) → scanned a ≡ scanned b → a ≡ b
-scan-unique = told-apart scanned scanBack scan-back
+scan-unique = told-apart scanned (readBack Found Refused) scan-back
 
 pub name39-unique : (a b : Name39) → named39 a ≡ named39 b → a ≡ b
 name39-unique a b e =

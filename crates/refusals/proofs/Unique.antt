@@ -35,6 +35,15 @@ unfolding encodeBack
 encode-back BufferTooSmall = refl
 encode-back PayloadTooLong = refl
 
+-- an answer made again from its map's value: `got` of a value, `err` of the error with a refusal's number
+unfoldable pub readBack : {A R : Type 0} → (A → R) → (DecodeError → R) → Answer A → R
+readBack got err (given value) = got value
+readBack got err (refused why) = err (decodeBack why)
+
+unfoldable pub writeBack : {A R : Type 0} → (A → R) → (EncodeError → R) → Answer A → R
+writeBack got err (given value) = got value
+writeBack got err (refused why) = err (encodeBack why)
+
 pub decode-errors-apart : (a b : DecodeError) → decodeRefusal a ≡ decodeRefusal b → a ≡ b
 decode-errors-apart = told-apart decodeRefusal decodeBack decode-back
 
