@@ -1,6 +1,2 @@
-pub mod Puts
-pub mod Payloads
-pub mod Frames
-pub mod Exact
-pub mod Limits
-pub mod Samples
+pub mod Sizes
+pub mod Packing

@@ -1,13 +1,10 @@
--- Commands as bytes: document 01, "Commands", with the scales of "Numbers" and the frame of "The envelope". Ids as in the Rust's `CommandId`.
--- Assumes nothing.
+-- Plain commands as bytes: document 01, "Commands", with the scales of "Numbers". Ids as in the Rust's `CommandId`. Assumes nothing.
 use mathlib.Core.Bool.{Bool, true, false}
-use mathlib.Core.List.{List, [], _∷_, _++_}
+use mathlib.Core.List.{List, [], _∷_}
 use Prim.Native.Nat.{ℕ, _^_}
 use lib.IntN.{ℤ, pos}
 use lib.Ieee as Ieee
 use lib.Ieee.{Float, binary32}
-use lib.ListN.{length}
-use Rattle.checksum.specs.Xmodem.{checksumOf}
 use Rattle.floats.specs.Numbers.{writingOf}
 use Rattle.packer.specs.Numbers.{bigEndian, unsignedOf}
 use Rattle.command.specs.declared.Command.{Command}
@@ -70,16 +67,3 @@ sizeOf (ResetStats ack) = 2
 sizeOf (Shutdown force restart) = 3
 sizeOf FwInfo = 1
 sizeOf (MotorEstop time) = 3
-
--- "Each forwarding hop puts 34 and a controller id in front of the rest."
-unfoldable pub hopBytes : List ℕ → List ℕ
-hopBytes [] = []
-hopBytes (id ∷ hops) = 34 ∷ id ∷ hopBytes hops
-
--- the payload of a command behind its hops, the first hop first
-unfoldable pub payloadOf : Command → List ℕ → List ℕ
-payloadOf command hops = hopBytes hops ++ bytesOf command
-
--- "A frame is 2, length n, n payload bytes, the checksum of the payload high byte first, then 3: n + 5 bytes."
-unfoldable pub frameOf : List ℕ → List ℕ
-frameOf payload = 2 ∷ length payload ∷ (payload ++ (bigEndian 2 (checksumOf payload) ++ (3 ∷ [])))

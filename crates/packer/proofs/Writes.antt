@@ -3,7 +3,7 @@
 use mathlib.Core.Path.{_≡_, refl, sym, ap, ap₂, _∙_}
 use mathlib.Core.List.{List, [], _∷_, _++_}
 use Prim.Native.Nat.{ℕ, zero, suc, _+_, _-_, _/_, _%_, _≤_, _<_}
-use native.Mathlib.Nat.{add-zero, add-suc, suc-add, add-assoc, not-suc-le-zero}
+use native.Mathlib.Nat.{add-zero, add-suc, suc-add, add-assoc, not-suc-le-zero, mod-eq-of-lt}
 use native.Mathlib.Omega.{arith}
 use lib.ListN.{length, set, length-append}
 use lib.Seq.{sets, sets-eq, length-sets, set-comm}
@@ -11,6 +11,7 @@ use borrow.Author.Tests.{le-leb, lt-leb}
 use Rattle.refusals.specs.Refusals.{Answer, given, refused, bufferTooSmall}
 use Rattle.packer.specs.Numbers.{bigEndian}
 use Rattle.packer.specs.Writing.{written, packAnswer, packAfter, Packs}
+use Rattle.packer.specs.declared.Packed.{Packed}
 use Rattle.packer.specs.declared.Packed.the-variants.{Next, Refused}
 use Rattle.refusals.specs.declared.EncodeError.the-variants.{BufferTooSmall}
 
@@ -18,6 +19,11 @@ pub digits-length : (width n : ℕ) → length (bigEndian width n) ≡ width
 unfolding bigEndian
 digits-length zero n = refl
 digits-length (suc width) n = length-append (bigEndian width (n / 256)) (n % 256 ∷ []) ∙ rw (digits-length width (n / 256)) (omega arith)
+
+-- a byte alone
+pub byte : (n : ℕ) → n < 256 → bigEndian 1 n ≡ n ∷ []
+unfolding bigEndian
+byte n h = ap (λ (k : ℕ). k ∷ []) (mod-eq-of-lt h)
 
 -- ---- bytes stored one after the other
 sets-sets : (l : List ℕ) (at : ℕ) (p q : List ℕ) → sets (sets l at p) (at + length p) q ≡ sets l at (p ++ q)
@@ -64,6 +70,9 @@ pub full-after : (bytes l : List ℕ) (at : ℕ) → length l < at + length byte
 unfolding packAfter
 full-after bytes l at h = rw (lt-leb (at + length bytes) (length l) h)
 
+pub full-packed : (bytes l : List ℕ) (at : ℕ) → length l < at + length bytes → Packs bytes l at (Refused BufferTooSmall) l
+full-packed bytes l at h = record { answer = sym (full-answer bytes l at h); holds = sym (full-after bytes l at h) }
+
 -- ---- the digits of a number
 pub digits-packed : (width n : ℕ) (l : List ℕ) (at : ℕ) (after : List ℕ) → at + width ≤ length l → after ≡ written l at (bigEndian width n)
     → Packs (bigEndian width n) l at (Next (at + width)) after
@@ -75,12 +84,7 @@ digits-packed width n l at after h e =
     }
 
 pub no-digits-packed : (width n : ℕ) (l : List ℕ) (at : ℕ) → length l < at + width → Packs (bigEndian width n) l at (Refused BufferTooSmall) l
-no-digits-packed width n l at h =
-    let d : length (bigEndian width n) ≡ width = digits-length width n in
-    record {
-      answer = sym (full-answer (bigEndian width n) l at (omega arith));
-      holds = sym (full-after (bigEndian width n) l at (omega arith));
-    }
+no-digits-packed width n l at h = full-packed (bigEndian width n) l at (omega (arith, digits-length width n))
 
 -- ---- two writes, one after the other, are one write of the joined bytes: the answer, and what the slice holds where both fit
 as-sets : (bytes l : List ℕ) (at : ℕ) → at + length bytes ≤ length l → packAfter bytes l at ≡ sets l at bytes
@@ -104,3 +108,18 @@ module _ (p q l : List ℕ) (at : ℕ) (h : at + length p ≤ length l) where
       ∙ ap (λ (m : List ℕ). sets m (at + length p) q) (as-sets p l at h)
       ∙ sets-sets l at p q
       ∙ sym (as-sets (p ++ q) l at k)
+
+-- the same of what two writers answered
+pub two-packs : {p q l m after : List ℕ} {at : ℕ} {r s : Packed} → at + length (p ++ q) ≤ length l → Packs p l at r m → Packs q m (at + length p) s after
+    → Packs (p ++ q) l at s after
+two-packs {p} {q} {l} {m} {after} {at} room w v =
+    let first : at + length p ≤ length l = omega (arith, length-append p q) in
+    record {
+      answer = v .answer ∙ ap (λ (x : List ℕ). packAnswer q x (at + length p)) (w .holds) ∙ two-answers p q l at first;
+      holds = v .holds ∙ ap (λ (x : List ℕ). packAfter q x (at + length p)) (w .holds) ∙ two-writes p q l at first room;
+    }
+
+-- no byte
+pub none-packed : (l : List ℕ) (at : ℕ) → at ≤ length l → Packs [] l at (Next at) l
+none-packed l at room =
+    record { answer = rw (fits-answer [] l at (omega arith)) (ap given (omega arith)); holds = sym (fits-after [] l at (omega arith) ∙ sym (stored [] l at (omega arith))) }

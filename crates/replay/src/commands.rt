@@ -3,7 +3,7 @@
 ghost use Prim.Native.Nat.{_<_};
 use crate::shows;
 use command::Command;
-use command::Encoded;
+use frame::Encoded;
 use libc::STDOUT_FILENO;
 use packer::UnpackedF32;
 use packer::UnpackedI32;
@@ -92,6 +92,6 @@ pub(crate) fn case(case: &[u8]) {
         return;
     }
     let buf = &mut space[..room];
-    let answer = command::encode(sent, &case[9..], buf);
+    let answer = frame::encode(sent, &case[9..], buf);
     encoded(answer, buf);
 }

@@ -3,8 +3,8 @@ ghost use mathlib.Core.Path.{_≡_};
 ghost use Prim.Native.Nat.{_≤_};
 ghost use lib.ListN.{length};
 use command::Command;
-use command::Encoded;
 use envelope::Judged;
+use frame::Encoded;
 use libc::STDOUT_FILENO;
 
 fn count(n: usize) {
@@ -54,7 +54,7 @@ fn bytes(all: &[u8]) {
 
 pub(crate) fn fw_version() {
     let mut buf = [0u8; 6];
-    let answer = command::encode(Command::FwVersion, b"", &mut buf);
+    let answer = frame::encode(Command::FwVersion, b"", &mut buf);
     io::write_all(STDOUT_FILENO, b"FwVersion: ");
     bytes(&buf);
     encoded(answer);
@@ -79,7 +79,7 @@ fn behind(sent: Command, some: usize) {
     if 300 < some {
         return;
     }
-    encoded(command::encode(sent, &all[..some], &mut buf));
+    encoded(frame::encode(sent, &all[..some], &mut buf));
 }
 
 pub(crate) fn hops_before_alive() {
@@ -96,7 +96,7 @@ pub(crate) fn hops_before_set_rpm() {
 
 fn behind_all(all: &[u8; 1000000]) {
     let mut buf = room();
-    encoded(command::encode(Command::Alive, all, &mut buf));
+    encoded(frame::encode(Command::Alive, all, &mut buf));
 }
 
 // Refused before any recursion over the hops.

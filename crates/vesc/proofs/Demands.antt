@@ -18,10 +18,10 @@ use Rattle.text.proofs.Rule.{well-formed-iff}
 use Rattle.packer.specs.Numbers.{beAt}
 use Rattle.packer.specs.Reading.{unsignedAt}
 use Rattle.packer.proofs.Places.{got, lacking}
-use Rattle.command.specs.Encode.{Encodes, encodeAnswer}
-use Rattle.command.proofs.Exact.{refused-writes-nothing}
+use Rattle.frame.specs.Encode.{Encodes, encodeAnswer}
+use Rattle.frame.proofs.Exact.{refused-writes-nothing}
 use Rattle.command.specs.declared.Command.{Command}
-use Rattle.command.specs.declared.Encoded.{Encoded}
+use Rattle.frame.specs.declared.Encoded.{Encoded}
 use Rattle.envelope.specs.Envelope.{judgeOf, fieldsEnd, finishOf, judgeSumOf, payloadOf}
 use Rattle.envelope.proofs.Order as order
 use Rattle.reply.specs.Decode.{replyBy, decodeOf}

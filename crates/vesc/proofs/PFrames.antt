@@ -6,8 +6,8 @@ use Rattle.floats.specs.Numbers.{readingOf, writingOf}
 use Rattle.packer.specs.Numbers.{beAt, bigEndian, signedOf, unsignedOf}
 use Rattle.packer.specs.Reading.{readAt, consumeAt}
 use Rattle.names.specs.Names.{nulWithin}
-use Rattle.command.specs.Commands.{hopBytes, payloadOf, frameOf}
-use Rattle.command.specs.Encode.{encodeAnswer, encodeAfter}
+use Rattle.frame.specs.Frame.{hopBytes, payloadOf, frameOf}
+use Rattle.frame.specs.Encode.{encodeAnswer, encodeAfter}
 use Rattle.fields.specs.Fields.{hasBit, takes, spanOf, rawsAt}
 use Rattle.kinds.specs.Kinds.{faultOf}
 use Rattle.records.specs.Records.{valuesWith, valuesOf}

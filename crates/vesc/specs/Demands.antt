@@ -13,11 +13,11 @@ use Rattle.checksum.specs.Xmodem.{checksumOf, registerOf}
 use Rattle.floats.specs.Near.{ReadingNear, size}
 use Rattle.text.specs.Utf8.{wellFormed, WellFormed}
 use Rattle.packer.specs.Numbers.{beAt}
-use Rattle.command.specs.Commands.{payloadOf}
-use Rattle.command.specs.Encode.{Encodes, encoded}
+use Rattle.frame.specs.Frame.{payloadOf}
+use Rattle.frame.specs.Encode.{Encodes, encoded}
 use Rattle.command.specs.declared.Command.{Command}
-use Rattle.command.specs.declared.Encoded.{Encoded}
-use Rattle.command.specs.declared.Encoded.the-variants.{Refused}
+use Rattle.frame.specs.declared.Encoded.{Encoded}
+use Rattle.frame.specs.declared.Encoded.the-variants.{Refused}
 use Rattle.envelope.specs.Envelope.{fieldsEnd, payloadOf as framePayload}
 use Rattle.reply.specs.Decode.{decodeOf}
 use Rattle.reply.specs.Reply.{emptyReply}

@@ -8,8 +8,9 @@ use lib.Ieee.{Float, fin, binary32, ofInt}
 use lib.ListN.{getD, drop, length, replicate}
 use Rattle.refusals.specs.Refusals.{Answer, given, refused, incompleteData, invalidFrame, unknownPacket, checksumMismatch, bufferTooSmall}
 use Rattle.floats.specs.Numbers.{readingOf}
-use Rattle.command.specs.Commands.{bytesOf, payloadOf}
-use Rattle.command.specs.Encode.{encodeAnswer, encodeAfter}
+use Rattle.command.specs.Commands.{bytesOf}
+use Rattle.frame.specs.Frame.{payloadOf}
+use Rattle.frame.specs.Encode.{encodeAnswer, encodeAfter}
 use Rattle.command.specs.declared.Command.{Command}
 use Rattle.command.specs.declared.Command.the-variants.{GetValues, Alive, SetRpm, SetCurrent}
 use Rattle.fields.specs.Fields.{valuesTable, rawsAt}

@@ -2,11 +2,9 @@
 // lists their crates too. specs/Frames.antt has document 01's proved frames as one table. Assumes nothing.
 pub use command::Command;
 pub use command::CommandId;
-pub use command::Encoded;
 pub use command::StatsMask;
 pub use command::ValuesMask;
 pub use command::ValuesSetupMask;
-pub use command::encode;
 pub use decoder::Decoder;
 pub use decoder::Fed;
 pub use decoder::Figures;
@@ -15,6 +13,8 @@ pub use envelope::Judged;
 pub use envelope::judge;
 pub use firmware::FwInfo;
 pub use firmware::FwVersion;
+pub use frame::Encoded;
+pub use frame::encode;
 pub use kinds::FaultCode;
 pub use kinds::HwType;
 pub use kinds::QmlHw;

@@ -1,10 +1,11 @@
 -- `command::pack_value` meets its contract. Assumes nothing.
 use mir.Syntax.{w32}
 use mir.ValLaws.{toZ-ofZ}
+use native.Mathlib.Omega.{arith}
 use borrow.Author.Needs.{needs}
 use Rattle.floats.proofs.Scales.{scales}
-use Rattle.command.proofs.Payloads.{flag-is}
-use Rattle.command.proofs.Puts.{none, then}
+use Rattle.packer.proofs.Writes.{none-packed}
+use Rattle.command.proofs.Packing.{flag-byte, flags-packed}
 use Rattle.command.proofs.pack_value.Statement.{statement}
 use Rattle.command.proofs.pack_value.Tie as tie
 
@@ -104,6 +105,9 @@ cast-pack-u8-2 c = search needs
 pack-u8-requires-2 : tie.Need-pack-u8-requires-2
 pack-u8-requires-2 c κs = search needs
 
+add-pack-u8 : tie.Need-add-pack-u8
+add-pack-u8 c = search needs
+
 cast-pack-u8-3 : tie.Need-cast-pack-u8-3
 cast-pack-u8-3 c = search needs
 
@@ -120,10 +124,10 @@ pack-u16-requires-2 : tie.Need-pack-u16-requires-2
 pack-u16-requires-2 c κs = search needs
 
 returns : tie.Need-returns
-returns c = rw (c .enum-told .given .1) (none _ _)
+returns c = rw (c .enum-told .given .1) (none-packed _ _ (omega (arith, c .before .before .before .pre)))
 
 returns-2 : tie.Need-returns-2
-returns-2 c = rw (c .enum-told2 .given .1) (none _ _)
+returns-2 c = rw (c .enum-told2 .given .1) (none-packed _ _ (omega (arith, c .before .before .before .pre)))
 
 same-length : tie.Need-same-length
 same-length c = search needs
@@ -162,10 +166,10 @@ returns-8 : tie.Need-returns-8
 returns-8 c = rw (c .before .before .before .before .before .command6 .given .1, scales .thousand) (c .before .before .pack-f325 .ensures)
 
 returns-9 : tie.Need-returns-9
-returns-9 c = rw (c .enum-told3 .given .1) (none _ _)
+returns-9 c = rw (c .enum-told3 .given .1) (none-packed _ _ (omega (arith, c .before .before .before .pre)))
 
 returns-10 : tie.Need-returns-10
-returns-10 c = rw (c .enum-told4 .given .1) (none _ _)
+returns-10 c = rw (c .enum-told4 .given .1) (none-packed _ _ (omega (arith, c .before .before .before .pre)))
 
 same-length-7 : tie.Need-same-length-7
 same-length-7 c = search needs
@@ -201,16 +205,16 @@ same-length-12 : tie.Need-same-length-12
 same-length-12 c = search needs
 
 returns-16 : tie.Need-returns-16
-returns-16 c = rw (c .before .before .before .before .before .command12 .given .1, ← flag-is _) (c .before .before .pack-u8 .ensures)
+returns-16 c = rw (c .before .before .before .before .before .command12 .given .1, ← flag-byte _) (c .before .before .pack-u8 .ensures)
 
 same-length-13 : tie.Need-same-length-13
 same-length-13 c = search needs
 
 returns-17 : tie.Need-returns-17
-returns-17 c = rw (c .before .before .before .before .before .before .before .before .before .command13 .given .1, ← flag-is (c .before .before .before .before .before .before .before .before .before .command13 .given .0 .0), ← flag-is (c .before .before .before .before .before .before .before .before .before .command13 .given .0 .1 .0)) (then (c .before .before .before .before .before .before .pack-u82 .ensures) (c .before .before .pack-u83 .ensures))
+returns-17 c = rw (c .before .before .before .before .before .before .before .before .before .command13 .given .1) (flags-packed (c .before .before .before .before .before .before .before .before .before .command13 .given .0 .0) (c .before .before .before .before .before .before .before .before .before .command13 .given .0 .1 .0) (rw (c .before .before .before .before .before .before .before .before .before .command13 .given .1) at (c .before .before .before .before .before .before .before .before .before .before .before .before .pre)) (c .before .before .before .before .before .before .pack-u82 .ensures) (c .before .before .pack-u83 .ensures))
 
 returns-18 : tie.Need-returns-18
-returns-18 c = rw (c .enum-told5 .given .1) (none _ _)
+returns-18 c = rw (c .enum-told5 .given .1) (none-packed _ _ (omega (arith, c .before .before .before .pre)))
 
 same-length-14 : tie.Need-same-length-14
 same-length-14 c = search needs
@@ -254,6 +258,7 @@ pack-value-spec =
     enum-known-command-13
     cast-pack-u8-2
     pack-u8-requires-2
+    add-pack-u8
     cast-pack-u8-3
     pack-u8-requires-3
     enum-told-5

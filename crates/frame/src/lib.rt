@@ -1,0 +1,128 @@
+// The frame of a command. Ports `encode` of src/command.rs; document 01, "Commands" and "Six refusals".
+// Assumes nothing.
+ghost use mathlib.Core.Path.{_≡_};
+ghost use mathlib.Core.List.{[], _∷_};
+ghost use Prim.Native.Nat.{_+_, _-_, _*_, _≤_};
+ghost use lib.ListN.{length, drop};
+ghost use Rattle.packer.specs.Numbers.{bigEndian};
+ghost use Rattle.frame.specs.Frame.{hopBytes, payloadOf, frameOf};
+ghost use Rattle.frame.specs.Encode.{Encodes};
+ghost use Rattle.frame.specs.Writes.{Puts, placeOf};
+use command::Command;
+use command::CommandId;
+use packer::Packed;
+use refusals::EncodeError;
+
+const FRAME_START_SHORT: u8 = 2;
+
+const FRAME_END: u8 = 3;
+
+const FORWARD_CAN: u8 = CommandId::ForwardCan as u8;
+
+// What a frame adds to its payload: the start, length and end bytes, and two of the sum.
+const FRAME_EXTRA: usize = 5;
+
+// The length byte holds no more.
+const PAYLOAD_MAX: usize = 255;
+
+// A hop takes two bytes of the payload and a command at least one: more hops never fit.
+const HOPS_MAX: usize = 127;
+
+// What `encode` answers: how many bytes the frame took, or the refusal.
+pub enum Encoded {
+    Written(usize),
+    Refused(EncodeError),
+}
+
+// The place that a writer answered. `encode` sees that there is room before anything is written, so the
+// refusal does not come up here, and any number would do for it.
+fn place_after(answer: Packed) -> usize
+    ensures { λ r. ⌜ r ≡ placeOf answer ⌝ }
+{
+    match answer {
+        Packed::Next(place) => place,
+        Packed::Refused(_) => 0,
+    }
+}
+
+// The writers of packer, for where there is room.
+fn pack_u8(buf: &mut [u8], pos: usize, value: u8) -> usize
+    ensures { λ r. ⌜ Puts (value ∷ []) (now (buf .entry)) pos r (now (buf .exit)) ⌝ }
+{
+    place_after(packer::pack_u8(buf, pos, value))
+}
+
+fn pack_u16(buf: &mut [u8], pos: usize, value: u16) -> usize
+    ensures { λ r. ⌜ Puts (bigEndian 2 value) (now (buf .entry)) pos r (now (buf .exit)) ⌝ }
+{
+    place_after(packer::pack_u16(buf, pos, value))
+}
+
+// The length of a payload: two bytes for each of the `left` hops not yet counted, and `plain` for the
+// command.
+fn payload_len(left: usize, plain: usize) -> usize
+    requires { ⌜ (left ≤ 127) × (plain ≤ 5) ⌝ }
+    ensures { λ r. ⌜ r ≡ 2 * left + plain ⌝ }
+{
+    if left == 0 {
+        return plain;
+    }
+    payload_len(left - 1, plain) + 2
+}
+
+// The forwarding prefix: the id of ForwardCan and its own for each of the last `left` hops, those not yet
+// written.
+fn pack_hops(hops: &[u8], left: usize, buf: &mut [u8], pos: usize) -> usize
+    requires { ⌜ left ≤ length (now hops) ⌝ }
+    ensures { λ r. ⌜ Puts (hopBytes (drop (length (now (hops .entry)) - left) (now (hops .entry)))) (now (buf .entry)) pos r (now (buf .exit)) ⌝ }
+{
+    if left == 0 {
+        return pos;
+    }
+    let first = hops.len() - left;
+    let id = hops[first];
+    let id_at = pack_u8(buf, pos, FORWARD_CAN);
+    let next = pack_u8(buf, id_at, id);
+    pack_hops(hops, left - 1, buf, next)
+}
+
+fn pack_payload(command: Command, hops: &[u8], buf: &mut [u8], pos: usize) -> usize
+    ensures { λ r. ⌜ Puts (payloadOf command (now (hops .entry))) (now (buf .entry)) pos r (now (buf .exit)) ⌝ }
+{
+    let next = pack_hops(hops, hops.len(), buf, pos);
+    place_after(command::pack_into(command, buf, next))
+}
+
+// The frame at the front of a buffer that has room for it; its payload is `len` bytes long.
+fn pack_frame(command: Command, hops: &[u8], len: usize, buf: &mut [u8]) -> usize
+    requires { ⌜ (len ≡ length (payloadOf command (now hops))) × (len ≤ 255) × (len + 5 ≤ length (now buf)) ⌝ }
+    ensures { λ r. ⌜ Puts (frameOf (payloadOf command (now (hops .entry)))) (now (buf .entry)) 0 r (now (buf .exit)) ⌝ }
+{
+    let len_at = pack_u8(buf, 0, FRAME_START_SHORT);
+    let payload_at = pack_u8(buf, len_at, len as u8);
+    let sum_at = pack_payload(command, hops, buf, payload_at);
+    let sum = checksum::checksum(&buf[2..sum_at]);
+    let end_at = pack_u16(buf, sum_at, sum);
+    pack_u8(buf, end_at, FRAME_END)
+}
+
+// Writes the frame of a command at the front of `buf`. Each of `hops` is a controller that forwards what
+// follows it, the first of them the outermost ForwardCan of the Rust. Ports `encode`, which sets the payload
+// no limit and may leave part of a frame behind where it refuses; this one then writes nothing.
+pub fn encode(command: Command, hops: &[u8], buf: &mut [u8]) -> Encoded
+    ensures { λ r. ⌜ Encodes command (now (hops .entry)) (now (buf .entry)) r (now (buf .exit)) ⌝ }
+{
+    // No theorem bounds the stack, so more hops are refused before any recursion: its depth is at most 128.
+    if HOPS_MAX < hops.len() {
+        return Encoded::Refused(EncodeError::PayloadTooLong);
+    }
+    let len = payload_len(hops.len(), command::command_len(command));
+    let frame_len = len + FRAME_EXTRA;
+    if PAYLOAD_MAX < len {
+        return Encoded::Refused(EncodeError::PayloadTooLong); // refusal 6, tested before 5
+    }
+    if buf.len() < frame_len {
+        return Encoded::Refused(EncodeError::BufferTooSmall); // refusal 5
+    }
+    Encoded::Written(pack_frame(command, hops, len, buf))
+}
