@@ -143,8 +143,8 @@ fn pack_value(command: Command, buf: &mut [u8], pos: usize) -> Packed
     }
 }
 
-// A plain command's bytes at a position, its id first. Ports `Command::pack_into`, which writes what fits where
-// not all of it does; this one then writes nothing.
+// A plain command's bytes at a position, its id first. Ports `Command::pack_into`, which leaves the id behind
+// where its value does not fit; this one then writes nothing.
 pub fn pack_into(command: Command, buf: &mut [u8], pos: usize) -> Packed
     ensures { λ r. ⌜ Packs (bytesOf command) (now (buf .entry)) pos r (now (buf .exit)) ⌝ }
 {

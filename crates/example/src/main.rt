@@ -4,6 +4,7 @@ use vesc::Command;
 use vesc::Decoder;
 use vesc::Encoded;
 use vesc::Judged;
+use vesc::Kind;
 use vesc::ValuesMask;
 
 fn say(what: &[u8], number: usize) {
@@ -12,7 +13,6 @@ fn say(what: &[u8], number: usize) {
     io::write_all(STDOUT_FILENO, b"\n");
 }
 
-// README: encode
 fn encoding() {
     let mut buf = [0u8; 64];
     let query = Command::GetValuesSelective(ValuesMask::RPM | ValuesMask::VOLTAGE_IN);
@@ -23,46 +23,73 @@ fn encoding() {
     }
 }
 
-// README: decode
 fn decoding(received: &[u8]) {
     let decoded = vesc::decode(received);
     let answer = decoded.answer;
     let reply = decoded.reply;
     match answer {
         Judged::Good(count) => {
-            let values = reply.values;
             say(b"bytes of the frame: ", count);
-            let fault = values.fault_code;
-            say(b"fault code: ", kinds::fault_number(fault) as usize);
+            let kind = reply.kind;
+            match kind {
+                Kind::GetValuesSelective => {
+                    let values = reply.values;
+                    let fault = values.fault_code;
+                    say(b"fault code: ", vesc::fault_number(fault) as usize);
+                }
+                _ => say(b"another reply: ", kind.number() as usize),
+            }
         }
         Judged::Refused(e) => say(b"refusal ", e.number() as usize),
     }
 }
 
-// README: stream
-fn streaming(piece: &[u8]) {
-    let fed = Decoder::new().feed(piece);
-    say(b"bytes taken: ", fed.count);
-    let mut decoder = fed.decoder;
+// Asks until nothing comes. A loop must be seen to end: the decoder's 512 bytes hold fewer frames than `turns`.
+fn asked(start: Decoder) -> Decoder {
+    let mut decoder = start;
     let mut turns: usize = 512;
     while turns > 0 {
-        let asked = decoder.next();
-        let after = asked.decoder;
+        let next = decoder.next();
+        let after = next.decoder;
         decoder = after;
-        if !asked.given {
-            return;
+        if !next.given {
+            return decoder;
         }
-        let reply = asked.reply;
+        let reply = next.reply;
         let kind = reply.kind;
         say(b"reply ", kind.number() as usize);
         turns -= 1;
     }
+    decoder
 }
-// README: end
+
+// Offers a piece until all of it is taken: `feed` takes at least a byte of a nonempty one.
+fn received(start: Decoder, piece: &[u8]) -> Decoder {
+    let mut decoder = start;
+    let mut taken: usize = 0;
+    let mut turns = piece.len();
+    while turns > 0 {
+        if piece.len() <= taken {
+            return decoder;
+        }
+        let fed = decoder.feed(&piece[taken..]);
+        let count = fed.count;
+        say(b"bytes taken: ", count);
+        decoder = asked(fed.decoder);
+        if piece.len() - taken < count {
+            return decoder;
+        }
+        taken += count;
+        turns -= 1;
+    }
+    decoder
+}
 
 fn main() {
     encoding();
     decoding(&[2, 6, 50, 0, 0, 128, 0, 5, 207, 51, 3]);
+    decoding(&[2, 1, 129, 129, 169, 3]);
     decoding(&[2, 1, 129, 129, 168, 3]);
-    streaming(&[255, 2, 1, 129, 129, 169, 3, 2, 1]);
+    let decoder = received(Decoder::new(), &[255, 2, 1, 129]);
+    received(decoder, &[129, 169, 3, 2, 1]);
 }

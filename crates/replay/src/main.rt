@@ -10,7 +10,7 @@ mod writes;
 
 use libc::STDIN_FILENO;
 
-// Reads until `into` is full; no where the input ends first.
+// Reads until `into` is full; false where the input ends first.
 fn filled(into: &mut [u8]) -> bool {
     io::read_full(STDIN_FILENO, into) == into.len()
 }
@@ -37,7 +37,7 @@ fn answered(letter: u8, case: &[u8], stream: &mut [u8], length: usize) -> usize 
     length
 }
 
-// One case, or no where the input is at its end.
+// One case; false where the input is at its end.
 fn one(stream: &mut [u8], length: &mut usize) -> bool {
     let mut head = [0u8; 3];
     if !filled(&mut head) {
@@ -59,7 +59,7 @@ fn one(stream: &mut [u8], length: &mut usize) -> bool {
     true
 }
 
-// The input says when it ends; the count only makes that the loop's end can be proved.
+// The input says when it ends; the count is there only so that the loop can be proved to end.
 fn main() {
     let mut stream = io::buffer();
     let mut length: usize = 0;

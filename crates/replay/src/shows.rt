@@ -72,7 +72,8 @@ pub(crate) fn bytes(bytes: &[u8]) {
     }
 }
 
-// The same of a buffer as one number, which oracle/answers works out alike.
+// A buffer as one number, which oracle/answers works out alike: each byte added to the sum times the FNV
+// prime.
 pub(crate) fn digest(bytes: &[u8]) -> u32 {
     let mut sum: u32 = 0;
     let mut at = 0;

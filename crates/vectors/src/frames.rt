@@ -1,6 +1,5 @@
 // Document 01, "Frames on both sides of each rule" and "Commands": the lines that are run.
 ghost use mathlib.Core.Path.{_≡_};
-ghost use Prim.Native.Nat.{_≤_};
 ghost use lib.ListN.{length};
 use command::Command;
 use envelope::Judged;
@@ -60,7 +59,7 @@ pub(crate) fn fw_version() {
     encoded(answer);
 }
 
-// A hop each; 300 are more than any payload takes.
+// 300 hops, more than any payload takes.
 fn hops() -> [u8; 300]
     ensures { λ r. ⌜ length r ≡ 300 ⌝ }
 {
@@ -73,13 +72,13 @@ fn room() -> [u8; 300]
     [0u8; 300]
 }
 
-fn behind(sent: Command, some: usize) {
+fn behind(sent: Command, count: usize) {
     let all = hops();
     let mut buf = room();
-    if 300 < some {
+    if 300 < count {
         return;
     }
-    encoded(frame::encode(sent, &all[..some], &mut buf));
+    encoded(frame::encode(sent, &all[..count], &mut buf));
 }
 
 pub(crate) fn hops_before_alive() {
@@ -122,7 +121,7 @@ fn unending(declared: u8, id: u8) -> [u8; 60]
 fn front(declared: u8, id: u8, some: usize) {
     let all = unending(declared, id);
     if some <= 60 {
-        judged(envelope::judge(&all[..some]));
+        judged(envelope::judge(&all[..count]));
     }
 }
 

@@ -1,6 +1,6 @@
-// Runs the vectors of the public documents that are not proved, and prints what comes: the catalogue's
-// check value of CRC-16/XMODEM, document 01's two readings past 2^24, and those of its frames that it
-// does not mark P, an encode behind a million hops and its worked stream among them.
+// Runs the vectors that document 01 wants run, and prints what comes: the catalogue's check value of
+// CRC-16/XMODEM, the two readings past 2^24, the frames that it does not mark P and its worked stream.
+// An encode behind a million hops is added.
 mod frames;
 mod stream;
 

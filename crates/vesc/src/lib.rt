@@ -1,5 +1,6 @@
 // The names that a caller uses. Ports src/lib.rs: encode commands, decode replies, decode a stream. A caller of the types
-// lists their crates too. specs/Frames.antt has document 01's proved frames as one table. Assumes nothing.
+// lists their crates too. specs/Frames.antt has document 01's proved frames as one table, specs/Demands.antt the three
+// demands. Assumes nothing.
 pub use command::Command;
 pub use command::CommandId;
 pub use command::StatsMask;
@@ -18,6 +19,9 @@ pub use frame::encode;
 pub use kinds::FaultCode;
 pub use kinds::HwType;
 pub use kinds::QmlHw;
+pub use kinds::fault_number;
+pub use kinds::hw_type_number;
+pub use kinds::qml_hw_number;
 pub use records::SetupValues;
 pub use records::Stats;
 pub use records::Values;

@@ -65,8 +65,8 @@ fn fed(line: Line, piece: &[u8], text: &mut [u8]) -> Line {
     now
 }
 
-// One read, which may wait, so what is printed so far is written first. No where the input is at its end,
-// or can't be read, or nothing can be written any more.
+// One read, which may wait, so what is printed so far is written first. `more` is false where the input is
+// at its end or can't be read, or nothing can be written any more.
 fn step(line: Line, input: &mut [u8], text: &mut [u8]) -> Stepped {
     let decoder = line.decoder;
     let ok = line.ok && printing::flushed(text, line.used);
@@ -104,7 +104,7 @@ struct Stepped {
     line: Line,
 }
 
-// The count only makes that the loop's end can be proved; no input uses it up.
+// The count is there only so that the loop can be proved to end; no input uses it up.
 fn all(start: Line, input: &mut [u8], text: &mut [u8]) -> Line {
     let mut line = start;
     let mut turns = u64::MAX;
