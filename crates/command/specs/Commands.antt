@@ -11,9 +11,9 @@ use Rattle.command.specs.declared.Command.{Command}
 use Rattle.command.specs.declared.Command.the-variants.{FwVersion, GetValues, SetDuty, SetCurrent, SetCurrentBrake, SetRpm, SetPos, SetHandbrake, Reboot, Alive, GetValuesSelective, GetValuesSetupSelective, SetCurrentRel, SetOdometer, GetStats, ResetStats, Shutdown, FwInfo, MotorEstop}
 
 -- "two flags as 0 or 1"
-abbrev pub flagOf : Bool → ℕ
-flagOf true = 1
-flagOf false = 0
+abbrev pub flagByte : Bool → ℕ
+flagByte true = 1
+flagByte false = 0
 
 -- a signed 32-bit number
 abbrev pub wholeBytes : ℤ → List ℕ
@@ -40,8 +40,8 @@ bytesOf (GetValuesSetupSelective mask) = 51 ∷ bigEndian 4 mask
 bytesOf (SetCurrentRel current) = 84 ∷ scaledBytes 100000 current
 bytesOf (SetOdometer odometer) = 110 ∷ bigEndian 4 odometer
 bytesOf (GetStats mask) = 128 ∷ bigEndian 2 mask
-bytesOf (ResetStats ack) = 129 ∷ flagOf ack ∷ []
-bytesOf (Shutdown force restart) = 156 ∷ flagOf force ∷ flagOf restart ∷ []
+bytesOf (ResetStats ack) = 129 ∷ flagByte ack ∷ []
+bytesOf (Shutdown force restart) = 156 ∷ flagByte force ∷ flagByte restart ∷ []
 bytesOf FwInfo = 157 ∷ []
 bytesOf (MotorEstop time) = 159 ∷ bigEndian 2 time
 

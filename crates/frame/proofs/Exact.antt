@@ -1,4 +1,4 @@
--- What `encode` promises, `Encodes`, leaves one answer and one buffer, and a refusal leaves the buffer alone. Both are over every command, every hops and
+-- What `encode` promises, `Encodes`, leaves one answer and one buffer, and a refusal leaves the buffer alone. Both are for every command, every list of hops and
 -- every buffer. Assumes nothing.
 use mathlib.Core.Path.{_≡_, refl, sym, ap, _∙_}
 use mathlib.Core.List.{List}

@@ -1,11 +1,10 @@
 -- How many hops a command may have: document 01, "Commands". Assumes nothing.
 use mathlib.Core.Path.{_≡_}
 use mathlib.Core.List.{List}
-use Prim.Native.Nat.{ℕ, _≤_, _<_}
+use Prim.Native.Nat.{ℕ, _≤_}
 use native.Mathlib.Omega.{arith}
 use lib.IntN.{ℤ}
 use lib.ListN.{length}
-use borrow.Author.Tests.{lt-ltb, le-ltb}
 use Rattle.refusals.specs.Refusals.{given, refused, payloadTooLong}
 use Rattle.frame.specs.Frame.{payloadOf}
 use Rattle.frame.specs.Encode.{encodeAnswer}
@@ -13,15 +12,11 @@ use Rattle.command.specs.declared.Command.{Command}
 use Rattle.command.specs.declared.Command.the-variants.{SetRpm, Alive}
 use Rattle.command.proofs.Sizes.{sizes}
 use Rattle.frame.proofs.Payloads.{payload-length}
+use Rattle.frame.proofs.Tests.{answer-too-long, answer-fits}
 
--- the longest payload passes where there is room, and one byte more does not
+-- the longest payload passes where there is room
 passes : (n room : ℕ) → n ≡ 255 → 260 ≤ room → encodeAnswer n room ≡ given 260
-unfolding encodeAnswer
-passes n room e k = rw (e, le-ltb room 260 k)
-
-too-long : (n room : ℕ) → 255 < n → encodeAnswer n room ≡ refused payloadTooLong
-unfolding encodeAnswer
-too-long n room h = rw (lt-ltb 255 n h)
+passes n room e k = rw e (answer-fits 255 room (omega arith) k)
 
 -- "127 hops before Alive give 255 bytes and pass"
 pub alive-after-127 : (hops l : List ℕ) → length hops ≡ 127 → 260 ≤ length l
@@ -37,9 +32,9 @@ rpm-after-125 rpm hops l e room = passes _ _ (omega (arith, payload-length (SetR
 -- "126 before SetRpm are PayloadTooLong"
 pub rpm-after-126 : (rpm : ℤ) (hops l : List ℕ) → length hops ≡ 126
     → encodeAnswer (length (payloadOf (SetRpm rpm) hops)) (length l) ≡ refused payloadTooLong
-rpm-after-126 rpm hops l e = too-long _ _ (omega (arith, payload-length (SetRpm rpm) hops))
+rpm-after-126 rpm hops l e = answer-too-long _ _ (omega (arith, payload-length (SetRpm rpm) hops))
 
 -- and 128 or more before anything are
 pub any-after-128 : (command : Command) (hops l : List ℕ) → 128 ≤ length hops
     → encodeAnswer (length (payloadOf command hops)) (length l) ≡ refused payloadTooLong
-any-after-128 command hops l h = too-long _ _ (omega (arith, payload-length command hops, sizes command))
+any-after-128 command hops l h = answer-too-long _ _ (omega (arith, payload-length command hops, sizes command))

@@ -11,7 +11,7 @@ use Rattle.command.specs.declared.Command.{Command}
 use Rattle.command.proofs.Sizes.{sizes}
 use Rattle.frame.specs.Frame.{hopBytes, payloadOf, frameOf}
 
--- ---- the hops
+-- ---- the hops: how many bytes they take, and those of the last `left` of them
 pub hops-length : (hops : List ℕ) → length (hopBytes hops) ≡ 2 * length hops
 unfolding hopBytes
 hops-length [] = refl
@@ -35,11 +35,6 @@ one-hop hops left h k =
     rw (e, drop-cons hops (length hops - left) 0 (omega arith))
 
 -- ---- payload and frame
--- "Each forwarding hop puts 34 and a controller id in front of the rest": the first hop stands first
-pub hop-in-front : (command : Command) (id : ℕ) (hops : List ℕ) → payloadOf command (id ∷ hops) ≡ 34 ∷ id ∷ payloadOf command hops
-unfolding payloadOf hopBytes
-hop-in-front command id hops = refl
-
 pub payload-length : (command : Command) (hops : List ℕ) → length (payloadOf command hops) ≡ 2 * length hops + sizeOf command
 unfolding payloadOf
 payload-length command hops = omega (arith, length-append (hopBytes hops) (bytesOf command), hops-length hops, sizes command .0)

@@ -29,7 +29,7 @@ abbrev pub encoded : Encoded → Answer ℕ
 encoded (Written count) = given count
 encoded (Refused e) = refused (encodeRefusal e)
 
--- the command was sent through the hops into the buffer l: r was answered, and the buffer came to be after
+-- encoding the command behind the hops into the buffer l: `r` is answered, and `after` is what the buffer then holds
 pub record Encodes (command : Command) (hops l : List ℕ) (r : Encoded) (after : List ℕ) : Type 0 where
   pub answer : encoded r ≡ encodeAnswer (length (payloadOf command hops)) (length l)
   pub holds : after ≡ encodeAfter (payloadOf command hops) l

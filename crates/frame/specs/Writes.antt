@@ -11,6 +11,6 @@ abbrev pub placeOf : Packed → ℕ
 placeOf (Next place) = place
 placeOf (Refused e) = 0
 
--- where there is room for the bytes at the place of l, they were written there, next is the place after them, and the slice came to be after
+-- where there is room for the bytes at the place of l, they are written there: `next` is the place after them, and `after` what the slice then holds
 abbrev pub Puts : List ℕ → List ℕ → ℕ → ℕ → List ℕ → Type 0
 Puts bytes l at next after = at + length bytes ≤ length l → Packs bytes l at (Next next) after

@@ -46,13 +46,13 @@ fn place_after(answer: Packed) -> usize
 }
 
 // The writers of packer, for where there is room.
-fn pack_u8(buf: &mut [u8], pos: usize, value: u8) -> usize
+fn put_u8(buf: &mut [u8], pos: usize, value: u8) -> usize
     ensures { λ r. ⌜ Puts (value ∷ []) (now (buf .entry)) pos r (now (buf .exit)) ⌝ }
 {
     place_after(packer::pack_u8(buf, pos, value))
 }
 
-fn pack_u16(buf: &mut [u8], pos: usize, value: u16) -> usize
+fn put_u16(buf: &mut [u8], pos: usize, value: u16) -> usize
     ensures { λ r. ⌜ Puts (bigEndian 2 value) (now (buf .entry)) pos r (now (buf .exit)) ⌝ }
 {
     place_after(packer::pack_u16(buf, pos, value))
@@ -81,8 +81,8 @@ fn pack_hops(hops: &[u8], left: usize, buf: &mut [u8], pos: usize) -> usize
     }
     let first = hops.len() - left;
     let id = hops[first];
-    let id_at = pack_u8(buf, pos, FORWARD_CAN);
-    let next = pack_u8(buf, id_at, id);
+    let id_at = put_u8(buf, pos, FORWARD_CAN);
+    let next = put_u8(buf, id_at, id);
     pack_hops(hops, left - 1, buf, next)
 }
 
@@ -98,12 +98,12 @@ fn pack_frame(command: Command, hops: &[u8], len: usize, buf: &mut [u8]) -> usiz
     requires { ⌜ (len ≡ length (payloadOf command (now hops))) × (len ≤ 255) × (len + 5 ≤ length (now buf)) ⌝ }
     ensures { λ r. ⌜ Puts (frameOf (payloadOf command (now (hops .entry)))) (now (buf .entry)) 0 r (now (buf .exit)) ⌝ }
 {
-    let len_at = pack_u8(buf, 0, FRAME_START_SHORT);
-    let payload_at = pack_u8(buf, len_at, len as u8);
+    let len_at = put_u8(buf, 0, FRAME_START_SHORT);
+    let payload_at = put_u8(buf, len_at, len as u8);
     let sum_at = pack_payload(command, hops, buf, payload_at);
-    let sum = checksum::checksum(&buf[2..sum_at]);
-    let end_at = pack_u16(buf, sum_at, sum);
-    pack_u8(buf, end_at, FRAME_END)
+    let sum = checksum::checksum(&buf[2..2 + len]);
+    let end_at = put_u16(buf, sum_at, sum);
+    put_u8(buf, end_at, FRAME_END)
 }
 
 // Writes the frame of a command at the front of `buf`. Each of `hops` is a controller that forwards what

@@ -4,7 +4,7 @@ use lib.ListN.{length-drop}
 use borrow.Author.Needs.{needs}
 use Rattle.command.specs.Commands.{bytesOf}
 use Rattle.command.proofs.Sizes.{sizes}
-use Rattle.command.proofs.Packing.{command-packed, command-too-long}
+use Rattle.command.proofs.Packing.{command-packed, command-no-room}
 use Rattle.command.proofs.pack_into.Statement.{statement}
 use Rattle.command.proofs.pack_into.Tie as tie
 
@@ -12,10 +12,10 @@ command-len-requires : tie.Need-command-len-requires
 command-len-requires c κs = search needs
 
 returns : tie.Need-returns
-returns c = command-too-long (c .before .before .before .args .command) (c .before .before .before .args .buf .now) (c .before .before .before .args .pos) (omega arith)
+returns c = command-no-room (c .before .before .before .args .command) (c .before .before .before .args .buf .now) (c .before .before .before .args .pos) (omega arith)
 
 returns-2 : tie.Need-returns-2
-returns-2 c = command-too-long (c .before .before .before .before .args .command) (c .before .before .before .before .args .buf .now) (c .before .before .before .before .args .pos) (omega arith)
+returns-2 c = command-no-room (c .before .before .before .before .args .command) (c .before .before .before .before .args .buf .now) (c .before .before .before .before .args .pos) (omega arith)
 
 command-id-requires : tie.Need-command-id-requires
 command-id-requires c κs = search needs

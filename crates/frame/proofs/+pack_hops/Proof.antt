@@ -10,8 +10,8 @@ use borrow.Fn.PlainCycle.{Measures, is, falls, and}
 use Rattle.frame.proofs.pack_hops.Reads as pack-hops
 use Rattle.frame.proofs.pack_hops.Kinds as pack-hops-kinds
 use Rattle.frame.proofs.+pack_hops.Lts-pack_hops as pack-hops-lts
-use Rattle.frame.proofs.pack_u8.Kinds as pack-u8-kinds
-use Rattle.frame.proofs.pack_u8.Reads as pack-u8-reads
+use Rattle.frame.proofs.put_u8.Kinds as put-u8-kinds
+use Rattle.frame.proofs.put_u8.Reads as put-u8-reads
 use Rattle.frame.proofs.+pack_hops.{statement}
 use Rattle.frame.proofs.+pack_hops.Tie.{close}
 
@@ -25,9 +25,9 @@ abbrev pack-hops-below : ℕ → In 2 pack-hops-kinds.ps
 pack-hops-below t =
     and 2 pack-hops-kinds.ps (falls 2 pack-hops-kinds.ps _<_ μ-pack-hops t) pack-hops.Pre
 
--- what the calls of the body ask and tell: `pack_u8`, and `pack_hops` at a smaller measure
-abbrev told : ℕ → In 1 pack-u8-kinds.ps × Out 1 pack-u8-kinds.ps pack-u8-kinds.r × In 2 pack-hops-kinds.ps × Out 2 pack-hops-kinds.ps pack-hops-kinds.r
-told t = (pack-u8-reads.Asked, pack-u8-reads.Learnt, pack-hops-below t, pack-hops.Post)
+-- what the calls of the body ask and tell: `put_u8`, and `pack_hops` at a smaller measure
+abbrev told : ℕ → In 1 put-u8-kinds.ps × Out 1 put-u8-kinds.ps put-u8-kinds.r × In 2 pack-hops-kinds.ps × Out 2 pack-hops-kinds.ps pack-hops-kinds.r
+told t = (put-u8-reads.Asked, put-u8-reads.Learnt, pack-hops-below t, pack-hops.Post)
 
 pack-hops-returns : (t : ℕ) → pack-hops-lts.Need-returns (told t) (pack-hops-at t) pack-hops.Post
 pack-hops-returns t c = rw (c .if1 .taken, no-hop (c .before .before .before .args .hops .now)) (none _ _)
@@ -38,11 +38,11 @@ pack-hops-sub-first t c = search needs
 pack-hops-shared-slice-read-id : (t : ℕ) → pack-hops-lts.Need-shared-slice-read-id (told t) (pack-hops-at t) pack-hops.Post
 pack-hops-shared-slice-read-id t c = search needs
 
-pack-hops-pack-u8-requires : (t : ℕ) → pack-hops-lts.Need-pack-u8-requires (told t) (pack-hops-at t) pack-hops.Post
-pack-hops-pack-u8-requires t c κs = search needs
+pack-hops-put-u8-requires : (t : ℕ) → pack-hops-lts.Need-put-u8-requires (told t) (pack-hops-at t) pack-hops.Post
+pack-hops-put-u8-requires t c κs = search needs
 
-pack-hops-pack-u8-requires-2 : (t : ℕ) → pack-hops-lts.Need-pack-u8-requires-2 (told t) (pack-hops-at t) pack-hops.Post
-pack-hops-pack-u8-requires-2 t c κs = search needs
+pack-hops-put-u8-requires-2 : (t : ℕ) → pack-hops-lts.Need-put-u8-requires-2 (told t) (pack-hops-at t) pack-hops.Post
+pack-hops-put-u8-requires-2 t c κs = search needs
 
 pack-hops-sub-pack-hops : (t : ℕ) → pack-hops-lts.Need-sub-pack-hops (told t) (pack-hops-at t) pack-hops.Post
 pack-hops-sub-pack-hops t c = search needs
@@ -55,15 +55,15 @@ pack-hops-same-length t c = search needs
 
 pack-hops-returns-2 : (t : ℕ) → pack-hops-lts.Need-returns-2 (told t) (pack-hops-at t) pack-hops.Post
 pack-hops-returns-2 t c =
-    hop-put (c .before .before .before .before .before .before .before .before .before .before .before .before .before .before .before .before .args .hops .now) (c .before .before .before .before .before .before .before .before .before .before .before .before .before .before .before .before .args .left) (omega arith) (omega arith) (c .before .before .before .before .before .before .before .before .before .before .pack-u8 .ensures) (c .before .before .before .before .before .before .pack-u82 .ensures) (c .before .before .pack-hops .ensures)
+    hop-put (c .before .before .before .before .before .before .before .before .before .before .before .before .before .before .before .before .args .hops .now) (c .before .before .before .before .before .before .before .before .before .before .before .before .before .before .before .before .args .left) (omega arith) (omega arith) (c .before .before .before .before .before .before .before .before .before .before .put-u8 .ensures) (c .before .before .before .before .before .before .put-u82 .ensures) (c .before .before .pack-hops .ensures)
 
 pub +pack-hops-spec : {M : Type 1} → statement M
 +pack-hops-spec = close μ-pack-hops λ t. pack-hops-lts.spec (told t) (pack-hops-at t) pack-hops.Post
     (pack-hops-returns t)
     (pack-hops-sub-first t)
     (pack-hops-shared-slice-read-id t)
-    (pack-hops-pack-u8-requires t)
-    (pack-hops-pack-u8-requires-2 t)
+    (pack-hops-put-u8-requires t)
+    (pack-hops-put-u8-requires-2 t)
     (pack-hops-sub-pack-hops t)
     (pack-hops-pack-hops-requires t)
     (pack-hops-same-length t)

@@ -1,9 +1,9 @@
--- `frame::pack_u8` meets its contract. Assumes nothing.
+-- `frame::put_u8` meets its contract. Assumes nothing.
 use borrow.Author.Needs.{needs}
 use Rattle.packer.proofs.Writes.{byte}
 use Rattle.frame.proofs.Puts.{placed}
-use Rattle.frame.proofs.pack_u8.Statement.{statement}
-use Rattle.frame.proofs.pack_u8.Tie as tie
+use Rattle.frame.proofs.put_u8.Statement.{statement}
+use Rattle.frame.proofs.put_u8.Tie as tie
 
 pack-u8-requires : tie.Need-pack-u8-requires
 pack-u8-requires c κs = search needs
@@ -17,5 +17,5 @@ same-length c = search needs
 returns : tie.Need-returns
 returns c = placed (c .before .before .before .pack-u8 .result) (rw (byte (c .before .before .before .before .before .before .args .value) (search needs)) at (c .before .before .before .pack-u8 .ensures)) (c .place-after .ensures)
 
-pub pack-u8-spec : {M : Type 1} → statement M
-pack-u8-spec = tie.close (tie.spec pack-u8-requires place-after-requires same-length returns)
+pub put-u8-spec : {M : Type 1} → statement M
+put-u8-spec = tie.close (tie.spec pack-u8-requires place-after-requires same-length returns)

@@ -1,8 +1,8 @@
--- `frame::pack_u16` meets its contract. Assumes nothing.
+-- `frame::put_u16` meets its contract. Assumes nothing.
 use borrow.Author.Needs.{needs}
 use Rattle.frame.proofs.Puts.{placed}
-use Rattle.frame.proofs.pack_u16.Statement.{statement}
-use Rattle.frame.proofs.pack_u16.Tie as tie
+use Rattle.frame.proofs.put_u16.Statement.{statement}
+use Rattle.frame.proofs.put_u16.Tie as tie
 
 pack-u16-requires : tie.Need-pack-u16-requires
 pack-u16-requires c κs = search needs
@@ -16,5 +16,5 @@ same-length c = search needs
 returns : tie.Need-returns
 returns c = placed (c .before .before .before .pack-u16 .result) (c .before .before .before .pack-u16 .ensures) (c .place-after .ensures)
 
-pub pack-u16-spec : {M : Type 1} → statement M
-pack-u16-spec = tie.close (tie.spec pack-u16-requires place-after-requires same-length returns)
+pub put-u16-spec : {M : Type 1} → statement M
+put-u16-spec = tie.close (tie.spec pack-u16-requires place-after-requires same-length returns)
