@@ -22,7 +22,8 @@ fn byte_in(register: u16, byte: u8) -> u16
     mixed
 }
 
-// The sum of a message: the remainder of its bits, with sixteen zeros after them, by 0x11021.
+// The sum of a message: the remainder of its bits, with sixteen zeros after them, divided by
+// 0x11021.
 pub fn checksum(bytes: &[u8]) -> u16
     ensures { λ r. ⌜ r ≡ checksumOf (now (bytes .entry)) ⌝ }
 {

@@ -54,6 +54,7 @@ fn flag_at(payload: &[u8], at: usize) -> bool
     byte_at(payload, at) != 0
 }
 
+// 0 where there is none, which the payload of a good frame never comes to.
 fn number_at(payload: &[u8], at: usize) -> u32
     ensures { λ r. ⌜ r ≡ numberOf (unsignedAt 4 (now (payload .entry)) at) ⌝ }
 {
@@ -63,6 +64,7 @@ fn number_at(payload: &[u8], at: usize) -> u32
     }
 }
 
+// The same.
 fn end_of(answer: Scan) -> usize
     ensures { λ r. ⌜ r ≡ endOf (scanned answer) ⌝ }
 {

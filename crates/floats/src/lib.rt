@@ -31,7 +31,7 @@ pub fn scaled(n: i32, scale: f32) -> f32
 }
 
 // `x` toward zero, held at the ends of the range, 0 for a NaN: Rust's `x as i32`. Rattle's own `as`
-// is defined only where it loses nothing, and std's cut only inside the range of an i64.
+// is defined only where it loses nothing, and std's `truncating_f32_to_i64` only inside an i64's range.
 pub fn f32_to_i32(x: f32) -> i32
     ensures { λ r. ⌜ r ≡ Ieee.toSigned 31 x ⌝ }
 {

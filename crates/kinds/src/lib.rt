@@ -3,7 +3,7 @@
 ghost use mathlib.Core.Path.{_≡_};
 ghost use Rattle.kinds.specs.Kinds.{faultOf, faultNumber, hwTypeOf, hwTypeNumber, qmlHwOf, qmlHwNumber};
 
-// Why a motor was stopped.
+// An error condition or hardware failure that a controller reports.
 pub enum FaultCode {
     None,
     OverVoltage,

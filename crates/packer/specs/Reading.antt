@@ -1,5 +1,5 @@
 -- Reading at a position of a slice, document 01, "The envelope": "A read past the end of the slice is 1."
--- Promises about the enums that the readers answer go through the maps at the end. Assumes nothing.
+-- Promises about the enums that the readers answer go through the maps to `Answer` below. Assumes nothing.
 use mathlib.Core.Path.{_≡_}
 use Prim.Native.Nat.{ℕ, _+_, _^_, _<_}
 use mathlib.Core.Bool.{Bool, true, false}
@@ -52,6 +52,7 @@ scaledAt width scale s at = readAt width (readingOf (signedOf (256 ^ width) (beA
 abbrev pub floatAt : List ℕ → ℕ → Answer (Float × ℕ)
 floatAt s at = readAt 4 (Ieee.ofBits binary32 (beAt s at 4)) s at
 
+-- what each enum says: the value with the place after it, or document 01's refusal
 abbrev pub unpackedU8 : UnpackedU8 → Answer (ℕ × ℕ)
 unpackedU8 (u8.Got value next) = given (value, next)
 unpackedU8 (u8.Refused e) = refused (decodeRefusal e)

@@ -26,7 +26,7 @@ abbrev pub packed : Packed → Answer ℕ
 packed (Next place) = given place
 packed (Refused e) = refused (encodeRefusal e)
 
--- the bytes were written at the place of l, as far as there was room: r was answered, and the slice came to be after
+-- writing the bytes at a place of l, all of them or none: `r` is answered, and `after` is what the slice then holds
 pub record Packs (bytes l : List ℕ) (at : ℕ) (r : Packed) (after : List ℕ) : Type 0 where
   pub answer : packed r ≡ packAnswer bytes l at
   pub holds : after ≡ packAfter bytes l at

@@ -54,6 +54,7 @@ pub enum Consumed {
     Refused(DecodeError),
 }
 
+// A cast at an index would ask that the byte fits; here it is the function's own.
 fn wide(byte: u8) -> u32
     ensures { λ r. ⌜ r ≡ byte ⌝ }
 {

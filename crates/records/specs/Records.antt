@@ -28,7 +28,7 @@ floatBy u raw = zero
 floatBy b raw = zero
 floatBy F raw = ofBits binary32 raw
 
--- "i and u signed and unsigned 32-bit"
+-- "i and u signed and unsigned 32-bit": i; the other kinds are no signed numbers
 abbrev pub signedBy : Kind → ℕ → ℤ
 signedBy (h scale) raw = pos 0
 signedBy (w scale) raw = pos 0
@@ -37,7 +37,7 @@ signedBy u raw = pos 0
 signedBy b raw = pos 0
 signedBy F raw = pos 0
 
--- "b a byte"
+-- and u, "b a byte"; the other kinds are no unsigned numbers
 abbrev pub unsignedBy : Kind → ℕ → ℕ
 unsignedBy (h scale) raw = 0
 unsignedBy (w scale) raw = 0
@@ -46,10 +46,11 @@ unsignedBy u raw = raw
 unsignedBy b raw = raw % 256
 unsignedBy F raw = 0
 
--- the field at a place of a table, by the table's entry there: "An absent field is zero"
+-- the entry at a place of a table
 abbrev pub entry : List Field → ℕ → Field
 entry table k = getD table k (field 0 b)
 
+-- the value of the field at a place, by its entry: "An absent field is zero"
 abbrev pub floatField : List Field → ℕ → List ℕ → ℕ → Float
 floatField table mask raws k = pick (hasBit mask (entry table k .bit)) (floatBy (entry table k .kind) (getD raws k 0)) zero
 

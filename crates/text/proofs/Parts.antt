@@ -13,7 +13,7 @@ use Rattle.names.specs.declared.Scan.the-variants.{Found, Refused}
 use Rattle.names.specs.Names.{scanned, nulWithin}
 use Rattle.names.proofs.Places.{found-ends}
 use Rattle.text.specs.Utf8.{wellFormed}
-use Rattle.text.specs.Text.{firstNul, partBefore, textBefore, hasText, textOf, FoundText}
+use Rattle.text.specs.Text.{firstNul, partBefore, hasTextBefore, hasText, textOf, FoundText}
 
 -- a name whose first NUL is found, by the place after it: the part before it, and what says whether that is the text
 pub record Part (name : List ℕ) (next : ℕ) : Type 0 where
@@ -25,7 +25,7 @@ pub record Part (name : List ℕ) (next : ℕ) : Type 0 where
 
 pub part-found
     : (name : List ℕ) (next : ℕ) {scan : Scan} → scanned scan ≡ nulWithin (length name) name 0 → scan ≡ Found next → Part name next
-unfolding firstNul hasText textBefore partBefore
+unfolding firstNul hasText hasTextBefore partBefore
 part-found name next answer found =
     let ends = found-ends (length name) name 0 next answer found in
     let there : next - 1 ≤ length name = omega arith in
@@ -35,7 +35,7 @@ part-found name next answer found =
 -- a name without NUL has no text
 pub none-refused
     : (name : List ℕ) {scan : Scan} {error : DecodeError} → scanned scan ≡ nulWithin (length name) name 0 → scan ≡ Refused error → hasText name ≡ false
-unfolding firstNul hasText textBefore
+unfolding firstNul hasText hasTextBefore
 none-refused name answer refusal = rw (sym answer ∙ ap scanned refusal)
 
 -- the part is the text where it is well-formed

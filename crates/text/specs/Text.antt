@@ -17,14 +17,14 @@ unfoldable pub partBefore : Answer ℕ → List ℕ → List ℕ
 partBefore (given next) name = take (next - 1) name
 partBefore (refused why) name = []
 
--- "No text .. holds when there is no NUL or the part is not well-formed UTF-8"
-unfoldable pub textBefore : Answer ℕ → List ℕ → Bool
-textBefore (given next) name = wellFormed (partBefore (given next) name)
-textBefore (refused why) name = false
+-- whether that part is a text: not "when there is no NUL or the part is not well-formed UTF-8"
+unfoldable pub hasTextBefore : Answer ℕ → List ℕ → Bool
+hasTextBefore (given next) name = wellFormed (partBefore (given next) name)
+hasTextBefore (refused why) name = false
 
 -- whether a name has a text, an empty one too
 unfoldable pub hasText : List ℕ → Bool
-hasText name = textBefore (firstNul name) name
+hasText name = hasTextBefore (firstNul name) name
 
 -- the text of a name; where it has none, "the part is then the empty one"
 unfoldable pub textOf : List ℕ → List ℕ

@@ -1,5 +1,6 @@
 // A thin `Unpacker` over a lent slice: the slice, and the position of the next read. Ports `Unpacker`
-// of src/packer.rs. Each method takes it apart, calls a step on the slice and the position, and
+// of src/packer.rs: `new`, and of its methods one of each sort, a byte, a 32-bit number, a scaled number
+// and a name of 39. Each method takes it apart, calls a step on the slice and the position, and
 // stores the position that came back. Assumes nothing.
 ghost use mathlib.Core.Path.{_≡_};
 ghost use Rattle.packer.specs.Reading.{unpackedU8, unpackedU32, unpackedF32};

@@ -3,7 +3,7 @@ use decoder::Figures;
 use libc::STDOUT_FILENO;
 use packer::Packed;
 
-// Whether another line fits: an id has at most 3 digits.
+// Whether another line fits: an id's 3 digits and the line end, in 8 bytes.
 pub(crate) fn has_room(text: &[u8], used: usize) -> bool {
     if text.len() < used {
         return false;
@@ -36,7 +36,7 @@ pub(crate) fn number_line(text: &mut [u8], used: usize, number: u64) -> usize {
     put(text, end, b'\n')
 }
 
-// Writes what waits. A failure is said on standard error, and nothing is written any more.
+// Whether what waits could be written; a failure is said on standard error.
 pub(crate) fn flushed(text: &[u8], used: usize) -> bool {
     if used <= text.len() {
         return written(&text[..used]);
