@@ -118,9 +118,9 @@ fn unending(declared: u8, id: u8) -> [u8; 60]
 }
 
 // What so many bytes of it are judged to be.
-fn front(declared: u8, id: u8, some: usize) {
+fn front(declared: u8, id: u8, count: usize) {
     let all = unending(declared, id);
-    if some <= 60 {
+    if count <= 60 {
         judged(envelope::judge(&all[..count]));
     }
 }
