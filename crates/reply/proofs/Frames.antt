@@ -1,13 +1,13 @@
 -- What `decode` answers, good or refused, from the judgement. Assumes nothing.
-use mathlib.Core.Path.{_≡_, refl, sym, ap, _∙_}
+use mathlib.Core.Path.{_≡_, ap, _∙_}
 use mathlib.Core.List.{List}
-use Prim.Native.Nat.{ℕ, _+_, _-_, _≤_}
+use Prim.Native.Nat.{ℕ, _-_}
 use native.Mathlib.Omega.{arith}
 use lib.ListN.{take, drop}
 use Rattle.refusals.specs.Refusals.{Refusal, Answer, given, refused}
 use Rattle.envelope.specs.Envelope.{judgeOf, payloadOf}
 use Rattle.reply.specs.Reply.{replyOf, emptyReply}
-use Rattle.reply.specs.Decode.{Decode, replyBy, decodeOf}
+use Rattle.reply.specs.Decode.{replyBy, decodeOf}
 use Rattle.reply.specs.declared.CommandReply.{CommandReply}
 
 -- the payload part, as `decode` hands it on

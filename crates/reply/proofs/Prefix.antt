@@ -1,19 +1,18 @@
 -- The theorems of `decode` that a stream stands on. Assumes nothing.
-use mathlib.Core.Path.{_≡_, refl, sym, ap, _∙_}
+use mathlib.Core.Path.{_≡_, refl, ap, _∙_}
 use mathlib.Core.List.{List, _++_}
 use Prim.Native.Nat.{ℕ, _+_, _-_, _≤_}
 use native.Mathlib.Omega.{arith}
 use lib.ListN.{length, getD, take, drop, length-drop}
 use lib.Seq.{drop-append-le, take-append-le}
-use Rattle.refusals.specs.Refusals.{Refusal, Answer, given, refused, incompleteData}
+use Rattle.refusals.specs.Refusals.{Answer, given, refused, incompleteData}
 use Rattle.envelope.specs.Envelope.{judgeOf, payloadOf}
 use Rattle.envelope.proofs.Prefix.{judge-prefix}
 use Rattle.envelope.proofs.Full.{judge-full}
 use Rattle.envelope.proofs.Sized.{judge-sized}
 use Rattle.envelope.proofs.OwnBytes.{judge-own-bytes, payload-own}
 use Rattle.reply.specs.Reply.{replyOf}
-use Rattle.reply.specs.Decode.{Decode, replyBy, decodeOf}
-use Rattle.reply.specs.declared.CommandReply.{CommandReply}
+use Rattle.reply.specs.Decode.{replyBy, decodeOf}
 
 payload-joined : (xs ys : List ℕ) (n : ℕ) → n + 2 ≤ length xs → payloadOf n (xs ++ ys) ≡ payloadOf n xs
 unfolding payloadOf

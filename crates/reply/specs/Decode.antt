@@ -1,5 +1,4 @@
 -- `decode`: what a slice is judged to be, and the reply of a good frame. Document 01, "The envelope". Assumes nothing.
-use mathlib.Core.Path.{_≡_}
 use Prim.Native.Nat.{ℕ, _-_}
 use mathlib.Core.List.{List}
 use Rattle.refusals.specs.Refusals.{Answer, given, refused}
