@@ -14,6 +14,7 @@ ghost use Rattle.decoder.specs.State.{lineOf, Sound, Holds, FeedIs, Next
 use envelope::Judged;
 use reply::CommandReply;
 
+// The unread bytes are buf[rpos..wpos]; the figures count since `new`.
 pub struct Decoder {
     pub buf: [u8; 512],
     pub rpos: usize,
@@ -129,6 +130,7 @@ fn reply_at(unread: &[u8], over: usize, count: usize) -> CommandReply
 }
 
 impl Decoder {
+    // A fresh decoder: nothing is unread, and every figure is 0.
     pub fn new() -> Decoder
         ensures { λ r. ⌜ Holds fresh r ⌝ }
     {
@@ -206,7 +208,8 @@ impl Decoder {
         }
     }
 
-    // Takes as much of the piece as fits. What is not taken is to be fed again.
+    // Takes as much of the piece as fits. What is not taken is to be fed again. Clears what is unread when
+    // 512 bytes lie unread, and on an empty piece when the tail is full: never feed an empty piece.
     pub fn feed(self, piece: &[u8]) -> Fed
         ensures { λ r. ⌜ FeedIs self (now (piece .entry)) r ⌝ }
     {
@@ -259,6 +262,7 @@ impl Decoder {
         decoder.wpos - decoder.rpos
     }
 
+    // The line figures as they stand now.
     pub fn figures(self) -> Figures
         ensures { λ r. ⌜ r ≡ figuresOf (lineOf self) ⌝ }
     {

@@ -164,7 +164,8 @@ fn finish(buf: &[u8], n: usize) -> Judged
     }
 }
 
-// A byte that starts no frame costs one comparison: it is judged before anything is called.
+// What the bytes from the first on are: a good frame with its count, or the refusal of `decode`. A byte
+// that starts no frame costs one comparison: it is judged before anything is called.
 pub fn judge(buf: &[u8]) -> Judged
     ensures { λ r. ⌜ judged r ≡ judgeOf (now (buf .entry)) ⌝ }
 {

@@ -79,7 +79,7 @@ module _ {R : Type 0} (judge : Judge R) (empty : R) where
   asks-enough steady (suc k) zero line h j = absurd (omega arith)
   asks-enough steady (suc k) (suc m) line h j = turn-enough steady k m line _ refl (λ l q. asks-enough steady k m l (omega arith) (omega arith))
 
-  -- So it is one call and, if that gave a reply, the same again: "`next` again and again until it gives nothing".
+  -- So it is one call and, if that gave a reply, the same again.
   pub asks-turn : Steady judge → (line : Line)
       → asks judge empty line ≡ choose (nextGiven judge line) (replyThen (nextReply judge empty line) (asks judge empty (nextLine judge line))) (stays (nextLine judge line))
   unfolding asks askTurns nextGiven nextReply nextLine

@@ -17,8 +17,8 @@ use Rattle.line.specs.Playing.{Nonempty, GivenSoFar, offerTurns, played}
 use Rattle.line.proofs.Playing.{fresh-waits, offered, plays}
 
 module _ {R : Type 0} (judge : Judge R) (empty : R) (steady : Steady judge) (bound : ℕ) (bounded : Bounded judge bound) (small : bound ≤ 512) where
-  -- "for every stream and every cutting into nonempty pieces, draining after each and offering again what was not taken, the replies are those of
-  -- one left-to-right reading of the uncut stream, in order and no others"; and what that reading leaves is what is unread
+  -- "Then for every stream and every such cutting the replies are those of one left-to-right reading of the uncut stream, in order and no others."
+  -- What that reading leaves is what is unread.
   pub demand-three : (pieces : List (List ℕ)) → Nonempty pieces
       → (played judge empty fresh pieces .replies ≡ repliesOf (reading judge (joined pieces) .given))
       × (played judge empty fresh pieces .line .unread ≡ reading judge (joined pieces) .rest)
@@ -27,16 +27,16 @@ module _ {R : Type 0} (judge : Judge R) (empty : R) (steady : Steady judge) (bou
       let r = searches-reading judge steady 0 (joined pieces) in
       (p .given ∙ r .replies, p .unread ∙ r .rest)
 
-  -- "every piece is taken in finitely many offers": after any pieces, in as many offers as it has bytes, or fewer
+  -- Every piece is taken: after any pieces, in as many offers as it has bytes, or fewer.
   pub every-piece-taken : (pieces : List (List ℕ)) (piece : List ℕ) → Nonempty pieces → 0 < length piece
       → offerTurns judge empty (length piece) (played judge empty fresh pieces .line) piece .left ≡ []
   every-piece-taken pieces piece some has =
       let p = plays judge empty steady bound bounded small pieces fresh some (fresh-waits judge empty steady bound bounded small) in
       offered judge empty steady bound bounded small (length piece) _ piece (le-refl _) has (p .waiting) .all
 
-  -- The lateness clause: "after any pieces by which that many bytes were taken in and asked for, the replies given so far contain the frame's, at its
-  -- place in the reading". A good frame, by its own n bytes, stands at p of the uncut stream, and no earlier frame of that stream's reading reaches over its
-  -- first byte. Its own last byte is among the pieces, and bound - 1 bytes counted from its first are.
+  -- The lateness clause: "A good frame overlapped by no earlier frame of that reading is given", which is to say, its reply is among those given so far, at
+  -- its place in the reading. The frame, good by its own n bytes, stands at p of the uncut stream, and no earlier frame of that stream's reading reaches over
+  -- its first byte. Its own last byte is among the pieces, and bound - 1 bytes counted from its first are.
   pub in-time : (pieces : List (List ℕ)) (later : List ℕ) (p n : ℕ) (r : R) → Nonempty pieces
       → judge (take n (drop p (joined pieces ++ later))) ≡ takes n r → NoneOver p (reading judge (joined pieces ++ later) .given)
       → p + n ≤ length (joined pieces) → TakenIn bound p (joined pieces)

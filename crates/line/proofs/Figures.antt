@@ -1,4 +1,4 @@
--- What a number held at its most is. Assumes nothing.
+-- A number held at a top value: `atMost`, and the figures raised by it. Assumes nothing.
 use mathlib.Core.Path.{_≡_, refl}
 use mathlib.Core.Bool.{Bool, true, false}
 use Prim.Native.Nat.{ℕ, _+_, _<_, _≤_}
@@ -8,7 +8,7 @@ use borrow.Author.Tests.{ltb-true, ltb-false, lt-ltb, le-ltb}
 use lib.Dec.{ltb}
 use Rattle.line.specs.Line.{choose, atMost, top, raised}
 
--- held, or as it is
+-- r is n, or `most` where n is above it
 pub record Held (most n r : ℕ) : Type 0 where
   pub low : r ≤ most
   pub high : r ≤ n

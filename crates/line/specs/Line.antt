@@ -76,7 +76,7 @@ module _ {R : Type 0} where
   isFound (found over n r after) = true
   isFound (nothing over rest) = false
 
-  -- "When it gives nothing, its reply is the empty one"
+  -- "all of them on a refusal or when there is no reply, hold zeros": where nothing is found, the empty reply
   abbrev pub replyFound : R → Search R → R
   replyFound empty (found over n r after) = r
   replyFound empty (nothing over rest) = empty

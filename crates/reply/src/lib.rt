@@ -17,7 +17,7 @@ use records::SetupValues;
 use records::Stats;
 use records::Values;
 
-// The sort of a reply: the Rust's variants.
+// The kind of a reply: which of the Rust's variants it is.
 pub enum Kind {
     FwVersion,
     GetValues,
