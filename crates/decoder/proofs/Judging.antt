@@ -83,7 +83,7 @@ moves-by number [] true q differs = absurd (differs (eqb-true number 1 q))
 moves-by number (value ∷ values) true q differs = none (cc)
 moves-by number values false q differs = refl
 
-pub frames-moves : (l : List ℕ) (why : Refusal) → judgeOf l ≡ refused why → (why .number ≡ 1 → ⊥) → frames l ≡ movesOn
+frames-moves : (l : List ℕ) (why : Refusal) → judgeOf l ≡ refused why → (why .number ≡ 1 → ⊥) → frames l ≡ movesOn
 unfolding frames decodeOf
 frames-moves l why e differs = ap (λ (a : Answer ℕ). verdictOf a (replyBy (judgeOf l) l)) e ∙ moves-by (why .number) (why .values) _ refl differs
 

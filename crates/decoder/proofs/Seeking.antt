@@ -90,7 +90,7 @@ found-within l over count e =
     (n .0, omega arith)
 
 -- No more bytes are moved over than there are.
-pub nothing-within : (l : List ℕ) (over : ℕ) → searchOf l (Nothing over) ≡ search frames l → over ≤ length l
+nothing-within : (l : List ℕ) (over : ℕ) → searchOf l (Nothing over) ≡ search frames l → over ≤ length l
 nothing-within l over e =
     let a : over + 0 + length (drop over l) ≡ length l =
     subst (λ (s : Search CommandReply). movedOver s + sizeFound s + length (restOf s) ≡ length l) (sym e) (search-account frames frames-steady l) in

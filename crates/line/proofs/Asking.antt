@@ -73,7 +73,7 @@ module _ {R : Type 0} (judge : Judge R) (empty : R) where
   turn-enough steady k m line (nothing over rest) e ih = refl
 
   -- Any number of calls over that of the unread bytes comes to the same.
-  pub asks-enough : Steady judge → (k m : ℕ) (line : Line) → length (line .unread) < k → length (line .unread) < m → askTurns judge empty k line ≡ askTurns judge empty m line
+  asks-enough : Steady judge → (k m : ℕ) (line : Line) → length (line .unread) < k → length (line .unread) < m → askTurns judge empty k line ≡ askTurns judge empty m line
   unfolding askTurns nextGiven nextReply nextLine
   asks-enough steady zero m line h j = absurd (omega arith)
   asks-enough steady (suc k) zero line h j = absurd (omega arith)

@@ -38,9 +38,9 @@ cleared-keeps line = by (eqb (line .wpos) 512)
     by false = record { same-fed = refl; balanced = λ t h. h }
 
 -- what it needs of any call: a fed below the top was so before
-pub record Balances (line after : Line) : Type 0 where
-  pub rises : after .fed < top → line .fed < top
-  pub balanced : after .fed < top → Balanced line → Balanced after
+record Balances (line after : Line) : Type 0 where
+  rises : after .fed < top → line .fed < top
+  balanced : after .fed < top → Balanced line → Balanced after
 
 copied-balances : (piece : List ℕ) (n : ℕ) (line : Line) → n ≤ length piece → Balances line (copied piece n line)
 unfolding copied
@@ -50,7 +50,7 @@ copied-balances piece n line h =
       balanced = λ t b. omega (arith, raised-below (line .fed) n t, length-append (line .unread) (take n piece), length-take-le n piece h);
     }
 
-pub feed-balances : (line : Line) (piece : List ℕ) → Balances line (feedLine line piece)
+feed-balances : (line : Line) (piece : List ℕ) → Balances line (feedLine line piece)
 unfolding feedLine feedCount fitting
 feed-balances line piece =
     let first = moved (length piece) line in
@@ -74,7 +74,7 @@ module _ {R : Type 0} (judge : Judge R) (steady : Steady judge) where
   search-balances line (nothing over rest) a =
       record { rises = λ t. t; balanced = λ t b. omega (arith, raised-exact (line .passed) over (omega arith)) }
 
-  pub next-balances : (line : Line) → Balances line (nextLine judge line)
+  next-balances : (line : Line) → Balances line (nextLine judge line)
   unfolding nextLine
   next-balances line = search-balances line (search judge (line .unread)) (search-account judge steady (line .unread))
 

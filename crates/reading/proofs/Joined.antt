@@ -15,7 +15,7 @@ module _ {R : Type 0} (judge : Judge R) (steady : Steady judge) where
   good-stands xs ys n r e = steady .prefix xs ys (good-told judge steady xs n r e) ∙ e
 
   -- and so does a byte that is moved over.
-  pub noise-stands : (xs ys : List ℕ) → judge xs ≡ movesOn → judge (xs ++ ys) ≡ movesOn
+  noise-stands : (xs ys : List ℕ) → judge xs ≡ movesOn → judge (xs ++ ys) ≡ movesOn
   noise-stands xs ys e = steady .prefix xs ys (noise-told judge steady xs e) ∙ e
 
   -- what reads from n bytes further on goes on at the same place

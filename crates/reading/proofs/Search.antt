@@ -21,7 +21,7 @@ accounts-further (nothing over rest) = omega arith
 
 module _ {R : Type 0} (judge : Judge R) (steady : Steady judge) where
   -- One turn of a search.
-  pub search-turn : (l : List ℕ) (v : Verdict R) → judge l ≡ v → search judge l ≡ searchAt v l (search judge (drop 1 l))
+  search-turn : (l : List ℕ) (v : Verdict R) → judge l ≡ v → search judge l ≡ searchAt v l (search judge (drop 1 l))
   unfolding search
   search-turn [] v e = ap (λ (w : Verdict R). searchAt w [] (search judge [])) (sym (steady .empty) ∙ e)
   search-turn (x ∷ xs) v e = ap (λ (w : Verdict R). searchAt w (x ∷ xs) (search judge xs)) e

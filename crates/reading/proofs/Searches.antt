@@ -5,10 +5,10 @@ use Prim.Native.Nat.{ℕ, zero, suc, _+_, _<_, _≤_}
 use native.Mathlib.Omega.{arith}
 use native.Mathlib.Nat.{le-refl, not-suc-le-zero}
 use lib.ListN.{length, drop, length-append}
-use Rattle.reading.specs.Reading.{notYet, Judge, Steady, Bounded, readingFrom, sizesOf, unreadPlace}
+use Rattle.reading.specs.Reading.{notYet, Judge, Steady, readingFrom, unreadPlace}
 use Rattle.reading.specs.Searching.{Search, found, nothing, movedOver, sizeFound, restOf, search, Ends, readOn, Searched, afterSearch, searchTurns, searches, andThen, Agrees}
 use Rattle.reading.proofs.Turns.{idle}
-use Rattle.reading.proofs.Rest.{rest-not-yet, rest-short}
+use Rattle.reading.proofs.Rest.{rest-not-yet}
 use Rattle.reading.proofs.Frames.{replies-append, sizes-append}
 use Rattle.reading.proofs.Joined.{reading-joined}
 use Rattle.reading.proofs.Search.{search-ends, search-account, search-reading}
@@ -39,7 +39,7 @@ module _ {R : Type 0} (judge : Judge R) (steady : Steady judge) where
   agrees-at k place l (nothing over rest) e h ih = record { replies = refl; handed = refl; rest = refl }
 
   -- As many searches as the list is long, or more, agree with the reading.
-  pub agrees-in : (k place : ℕ) (l : List ℕ) → length l ≤ k → Agrees (searchTurns judge k l) (readingFrom judge place l)
+  agrees-in : (k place : ℕ) (l : List ℕ) → length l ≤ k → Agrees (searchTurns judge k l) (readingFrom judge place l)
   unfolding searchTurns
   agrees-in zero place [] h = subst (Agrees (searchTurns judge zero [])) (sym (idle judge steady place [] (steady .empty))) (record { replies = refl; handed = refl; rest = refl })
   agrees-in zero place (x ∷ xs) h = absurd (not-suc-le-zero h)
@@ -58,7 +58,7 @@ module _ {R : Type 0} (judge : Judge R) (steady : Steady judge) where
   account-at k l (nothing over rest) a ih = omega arith
 
   -- The bytes of the frames found, those moved over and those left are all the bytes there were, however often is searched.
-  pub turns-account : (k : ℕ) (l : List ℕ) → searchTurns judge k l .handed + searchTurns judge k l .passed + length (searchTurns judge k l .rest) ≡ length l
+  turns-account : (k : ℕ) (l : List ℕ) → searchTurns judge k l .handed + searchTurns judge k l .passed + length (searchTurns judge k l .rest) ≡ length l
   unfolding searchTurns
   turns-account zero l = omega arith
   turns-account (suc k) l = account-at k l (search judge l) (search-account judge steady l) (λ m. turns-account k m)
@@ -66,12 +66,6 @@ module _ {R : Type 0} (judge : Judge R) (steady : Steady judge) where
   pub searches-account : (l : List ℕ) → searches judge l .handed + searches judge l .passed + length (searches judge l .rest) ≡ length l
   unfolding searches
   searches-account l = turns-account (length l) l
-
-  -- The sizes given, the bytes moved over and the rest are the whole list.
-  pub reading-account : (place : ℕ) (l : List ℕ) → sizesOf (readingFrom judge place l .given) + searches judge l .passed + length (readingFrom judge place l .rest) ≡ length l
-  reading-account place l =
-      let a = searches-reading place l in
-      rw (← a .handed, ← a .rest) (searches-account l)
 
   -- Any number of searches that is enough comes to the same.
   pub searches-enough : (k : ℕ) (l : List ℕ) → length l ≤ k → searchTurns judge k l ≡ searches judge l
@@ -92,12 +86,9 @@ module _ {R : Type 0} (judge : Judge R) (steady : Steady judge) where
   unfolding searchTurns
   searches-turn l = sym (searches-enough (suc (length l)) l (omega arith)) ∙ turn-at l _ refl
 
-  -- What is left is not yet told, and so short.
+  -- What is left is not yet told.
   pub searches-rest : (l : List ℕ) → judge (searches judge l .rest) ≡ notYet
   searches-rest l = ap judge (searches-reading 0 l .rest) ∙ rest-not-yet judge steady 0 l
-
-  pub searches-short : (bound : ℕ) → Bounded judge bound → (l : List ℕ) → length (searches judge l .rest) < bound
-  searches-short bound bounded l = rw (searches-reading 0 l .rest) (rest-short judge steady bound bounded 0 l)
 
   -- Searching a joined stream is searching its first part, and then what that left with the second behind it.
   pub searches-joined : (xs ys : List ℕ) → searches judge (xs ++ ys) ≡ andThen (searches judge xs) (searches judge (searches judge xs .rest ++ ys))

@@ -11,7 +11,7 @@ use Rattle.reply.specs.Decode.{replyBy, decodeOf}
 use Rattle.reply.specs.declared.CommandReply.{CommandReply}
 
 -- the payload part, as `decode` hands it on
-pub part : (s : List ℕ) (count : ℕ) → take (count - 3 - 2) (drop 2 s) ≡ payloadOf (count - 5) s
+part : (s : List ℕ) (count : ℕ) → take (count - 3 - 2) (drop 2 s) ≡ payloadOf (count - 5) s
 unfolding payloadOf
 part s count = let e : count - 3 - 2 ≡ count - 5 = omega arith in ap (λ (n : ℕ). take n (drop 2 s)) e
 
