@@ -15,6 +15,7 @@ use Rattle.packer.specs.declared.Consumed.{Consumed}
 use Rattle.packer.specs.declared.Consumed.the-variants.{To}
 use Rattle.packer.proofs.Places.{got}
 use Rattle.names.proofs.Places.{none}
+use Rattle.fields.proofs.OwnBytes.{number-prefix}
 use Rattle.envelope.specs.Envelope.{andThen, byteAt, payloadOf}
 use Rattle.envelope.proofs.Answers.{Known, Kept, known-given}
 
@@ -33,20 +34,7 @@ read-given : {A : Type 0} (there : Bool) (value result : A) → Read there value
 read-given true value result e = (refl, cc)
 read-given false value result e = none (cc)
 
--- ---- a number is the same in bytes that agree with the others so far
-
-Agree : ℕ → List ℕ → List ℕ → Type 0
-Agree end xs zs = (k : ℕ) → k < end → getD zs k 0 ≡ getD xs k 0
-
-be-agrees : (width at : ℕ) (xs zs : List ℕ) → Agree (at + width) xs zs → beAt zs at width ≡ beAt xs at width
-unfolding beAt Agree
-be-agrees zero at xs zs agree = refl
-be-agrees (suc width) at xs zs agree =
-    rw (be-agrees width at xs zs (λ k below. agree k (omega arith)), agree (at + width) (omega arith))
-
-agree-more : (end : ℕ) (xs ys : List ℕ) → end ≤ length xs → Agree end xs (xs ++ ys)
-unfolding Agree
-agree-more end xs ys there k below = List·getD-append xs ys 0 k (omega arith)
+-- ---- how many bytes there are
 
 -- more bytes hold as much
 more-there : (m : ℕ) (xs ys : List ℕ) → m ≤ length xs → m ≤ length (xs ++ ys)
@@ -99,12 +87,13 @@ number-kept width xs ys at =
     read-kept (leb (at + width) (length xs)) (leb (at + width) (length (xs ++ ys))) (beAt xs at width, at + width) (beAt (xs ++ ys) at width, at + width)
     (λ t. let there = leb-true (at + width) (length xs) t in (
       le-leb (at + width) (length (xs ++ ys)) (more-there (at + width) xs ys there),
-      ap (λ (n : ℕ). (n, at + width)) (be-agrees width at xs (xs ++ ys) (agree-more (at + width) xs ys there)),
+      ap (λ (n : ℕ). (n, at + width)) (number-prefix xs ys at width there),
     ))
 
 pub number-own : (width : ℕ) (xs : List ℕ) (at end : ℕ) → at + width ≤ end → beAt (take end xs) at width ≡ beAt xs at width
-unfolding Agree
-number-own width xs at end before = be-agrees width at xs (take end xs) (λ k below. getD-take end xs k 0 (omega arith))
+unfolding beAt
+number-own zero xs at end before = refl
+number-own (suc width) xs at end before = rw (number-own width xs at end (omega arith), getD-take end xs (at + width) 0 (omega arith))
 
 -- ---- bytes as they stand
 

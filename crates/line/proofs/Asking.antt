@@ -1,13 +1,13 @@
 -- Asking again and again until nothing is given: it gives and leaves what searching does, and so what the reading does. Assumes nothing.
-use mathlib.Core.Path.{_≡_, refl, ap, _∙_, subst}
+use mathlib.Core.Path.{_≡_, refl, ap, _∙_}
 use mathlib.Core.Bool.{false}
 use mathlib.Core.List.{List, _∷_}
-use Prim.Native.Nat.{ℕ, zero, suc, _+_, _<_}
+use Prim.Native.Nat.{ℕ, zero, suc, _<_}
 use native.Mathlib.Omega.{arith}
-use lib.ListN.{length, drop}
+use lib.ListN.{length}
 use Rattle.reading.specs.Reading.{Judge, Steady}
-use Rattle.reading.specs.Searching.{Search, found, nothing, movedOver, sizeFound, restOf, search, Ends, Searched, afterSearch, searchTurns, searches}
-use Rattle.reading.proofs.Search.{search-not-yet, search-ends, search-account}
+use Rattle.reading.specs.Searching.{Search, found, nothing, search, Searched, afterSearch, searchTurns, searches}
+use Rattle.reading.proofs.Search.{search-not-yet, found-fewer}
 use Rattle.reading.proofs.Searches.{searches-enough, searches-account, searches-rest}
 use Rattle.line.specs.Line.{Line, choose, isFound, replyFound, lineAfter, nextGiven, nextReply, nextLine}
 use Rattle.line.specs.Playing.{Played, stays, replyThen, askTurns, asks}
@@ -56,20 +56,12 @@ module _ {R : Type 0} (judge : Judge R) (empty : R) where
       let a = asks-searches steady line in
       ap isFound (search-not-yet judge steady _ (ap judge (a .unread) ∙ searches-rest judge steady (line .unread)))
 
-  -- a call that gives leaves fewer bytes
-  fewer : Steady judge → (l : List ℕ) (over n : ℕ) (r : R) (after : List ℕ) → search judge l ≡ found over n r after → length after < length l
-  fewer steady l over n r after e =
-      let a : over + n + length after ≡ length l = subst (λ (s : Search R). movedOver s + sizeFound s + length (restOf s) ≡ length l) e (search-account judge steady l) in
-      let g = subst (Ends judge l) e (search-ends judge steady l) in
-      let p : 0 < n = steady .sized (drop over l) n r (g .0) .0 in
-      omega arith
-
   turn-enough : Steady judge → (k m : ℕ) (line : Line) (s : Search R) → search judge (line .unread) ≡ s
       → ((l : Line) → length (l .unread) < length (line .unread) → askTurns judge empty k l ≡ askTurns judge empty m l)
       → choose (isFound s) (replyThen (replyFound empty s) (askTurns judge empty k (lineAfter s line))) (stays (lineAfter s line))
       ≡ choose (isFound s) (replyThen (replyFound empty s) (askTurns judge empty m (lineAfter s line))) (stays (lineAfter s line))
   turn-enough steady k m line (found over n r after) e ih =
-      ap (replyThen r) (ih (lineAfter (found over n r after) line) (fewer steady (line .unread) over n r after e))
+      ap (replyThen r) (ih (lineAfter (found over n r after) line) (found-fewer judge steady (line .unread) over n r after e))
   turn-enough steady k m line (nothing over rest) e ih = refl
 
   -- Any number of calls over that of the unread bytes comes to the same.
@@ -90,6 +82,6 @@ module _ {R : Type 0} (judge : Judge R) (empty : R) where
           → choose (isFound s) (replyThen (replyFound empty s) (askTurns judge empty (length (line .unread)) (lineAfter s line))) (stays (lineAfter s line))
           ≡ choose (isFound s) (replyThen (replyFound empty s) (askTurns judge empty (suc (length (lineAfter s line .unread))) (lineAfter s line))) (stays (lineAfter s line))
       turn-at (found over n r after) e =
-          let h : length after < length (line .unread) = fewer steady (line .unread) over n r after e in
+          let h : length after < length (line .unread) = found-fewer judge steady (line .unread) over n r after e in
           ap (replyThen r) (asks-enough steady (length (line .unread)) (suc (length after)) (lineAfter (found over n r after) line) h (omega arith))
       turn-at (nothing over rest) e = refl

@@ -1,17 +1,16 @@
 -- Demand 3. Document 01, "How tight the promises are": a `next` that never gives anything, or gives the first reply and then none, is shut out.
 -- `played` is `feed` and `next` as their contracts define them: from a fresh decoder, each piece offered until it is taken, asked after each offer
 -- until nothing comes. `reading` is the one left-to-right reading of a stream, from the judge alone. Assumes nothing.
-use mathlib.Core.Path.{_≡_, ap, _∙_}
-use mathlib.Core.List.{List, [], _++_, append-assoc}
+use mathlib.Core.Path.{_≡_, _∙_}
+use mathlib.Core.List.{List, [], _++_}
 use Prim.Native.Nat.{ℕ, _+_, _<_, _≤_}
 use native.Mathlib.Nat.{le-refl}
 use lib.ListN.{length, take, drop}
-use Rattle.reading.specs.Reading.{takes, Judge, Given, Steady, Bounded, reading, repliesOf, joined}
+use Rattle.reading.specs.Reading.{takes, Judge, Steady, Bounded, reading, repliesOf, joined}
 use Rattle.reading.specs.Lateness.{TakenIn, NoneOver}
 use Rattle.reading.proofs.Frames.{reply-given}
 use Rattle.reading.proofs.Searches.{searches-reading}
-use Rattle.reading.proofs.Joined.{given-front}
-use Rattle.reading.proofs.Lateness.{given-in-time}
+use Rattle.reading.proofs.Lateness.{given-in-time, given-stays}
 use Rattle.line.specs.Line.{fresh}
 use Rattle.line.specs.Playing.{Nonempty, GivenSoFar, offerTurns, played}
 use Rattle.line.proofs.Playing.{fresh-waits, offered, plays}
@@ -41,17 +40,11 @@ module _ {R : Type 0} (judge : Judge R) (empty : R) (steady : Steady judge) (bou
       → judge (take n (drop p (joined pieces ++ later))) ≡ takes n r → NoneOver p (reading judge (joined pieces ++ later) .given)
       → p + n ≤ length (joined pieces) → TakenIn bound p (joined pieces)
       → GivenSoFar p n r (reading judge (joined pieces ++ later) .given) (played judge empty fresh pieces .replies)
+  unfolding given-stays
   in-time pieces later p n r some good clear own enough =
       let a = given-in-time judge steady bound bounded (joined pieces) later p n r good clear own enough in
-      let f = given-front judge steady (joined pieces) later in
       record {
-        frame =
-            record {
-              before = a .before;
-              after = a .after ++ f .0;
-              exactly = f .1 ∙ ap (λ (given : List (Given R)). given ++ f .0) (a .exactly) ∙ append-assoc (a .before) _ (f .0);
-              clear = a .clear;
-            };
+        frame = given-stays judge steady (joined pieces) later p n r a;
         later = repliesOf (a .after);
         exactly = demand-three pieces some .0 ∙ reply-given a;
       }

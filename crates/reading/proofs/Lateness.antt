@@ -67,7 +67,7 @@ module _ {R : Type 0} (judge : Judge R) (steady : Steady judge) where
   given-where-settled xs p n r good s h = claim p n r 0 xs p (zero-add p) good s h
 
   -- What was given stays given when bytes are appended.
-  pub given-stays : (xs ys : List ℕ) (p n : ℕ) (r : R) → GivenAt p n r (reading judge xs .given) → GivenAt p n r (reading judge (xs ++ ys) .given)
+  unfoldable pub given-stays : (xs ys : List ℕ) (p n : ℕ) (r : R) → GivenAt p n r (reading judge xs .given) → GivenAt p n r (reading judge (xs ++ ys) .given)
   given-stays xs ys p n r a =
       let f = given-front judge steady xs ys in
       record { before = a .before; after = a .after ++ f .0; exactly = f .1 ∙ ap (λ (x : List (Given R)). x ++ f .0) (a .exactly) ∙ append-assoc (a .before) _ (f .0); clear = a .clear }

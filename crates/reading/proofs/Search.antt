@@ -1,7 +1,7 @@
 -- One search: a turn of it, where it ends, the bytes it accounts for, and the reading that goes on behind it. Assumes nothing.
 use mathlib.Core.Path.{_≡_, refl, sym, ap, _∙_, subst}
 use mathlib.Core.List.{List, [], _∷_}
-use Prim.Native.Nat.{ℕ, suc, _+_}
+use Prim.Native.Nat.{ℕ, suc, _+_, _<_}
 use native.Mathlib.Omega.{arith}
 use native.Mathlib.Nat.{add-zero, add-assoc, zero-add}
 use lib.ListN.{length, drop, length-drop}
@@ -58,6 +58,20 @@ module _ {R : Type 0} (judge : Judge R) (steady : Steady judge) where
       (λ place l n r e ih. subst (Ends judge l) (sym (search-good l n r e)) (e, ap (λ (k : ℕ). drop k l) (sym (zero-add n))))
       (λ place l e ih. subst (Ends judge l) (sym (search-noise l e)) (ends-further l (search judge (drop 1 l)) ih))
       0
+
+  -- A search that found a frame: it is good where it stands, and it, the bytes moved over and those after it are all the bytes.
+  pub found-account : (l : List ℕ) (over n : ℕ) (r : R) (after : List ℕ) → search judge l ≡ found over n r after → (judge (drop over l) ≡ takes n r) × (over + n + length after ≡ length l)
+  found-account l over n r after e = (rw e at (search-ends l) .0, rw e at (search-account l))
+
+  -- So fewer bytes are left.
+  pub found-fewer : (l : List ℕ) (over n : ℕ) (r : R) (after : List ℕ) → search judge l ≡ found over n r after → length after < length l
+  found-fewer l over n r after e =
+      let a = found-account l over n r after e in
+      omega (arith, a .1, steady .sized (drop over l) n r (a .0) .0)
+
+  -- A search that found nothing: the bytes moved over and those left are all the bytes.
+  pub nothing-account : (l : List ℕ) (over : ℕ) (rest : List ℕ) → search judge l ≡ nothing over rest → over + length rest ≡ length l
+  nothing-account l over rest e = let a = rw e at (search-account l) in omega arith
 
   read-on-further : (place : ℕ) (s : Search R) → readOn judge (place + 1) s ≡ readOn judge place (further 1 s)
   read-on-further place (found over n r after) =

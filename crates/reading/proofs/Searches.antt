@@ -1,17 +1,17 @@
 -- Searching again and again until nothing is found: it gives and leaves what the reading does. Assumes nothing.
 use mathlib.Core.Path.{_≡_, refl, sym, ap, _∙_, subst}
 use mathlib.Core.List.{List, [], _∷_, _++_}
-use Prim.Native.Nat.{ℕ, zero, suc, _+_, _<_, _≤_}
+use Prim.Native.Nat.{ℕ, zero, suc, _+_, _≤_}
 use native.Mathlib.Omega.{arith}
 use native.Mathlib.Nat.{le-refl, not-suc-le-zero}
-use lib.ListN.{length, drop, length-append}
+use lib.ListN.{length, length-append}
 use Rattle.reading.specs.Reading.{notYet, Judge, Steady, readingFrom, unreadPlace}
-use Rattle.reading.specs.Searching.{Search, found, nothing, movedOver, sizeFound, restOf, search, Ends, readOn, Searched, afterSearch, searchTurns, searches, andThen, Agrees}
+use Rattle.reading.specs.Searching.{Search, found, nothing, movedOver, sizeFound, restOf, search, readOn, Searched, afterSearch, searchTurns, searches, andThen, Agrees}
 use Rattle.reading.proofs.Turns.{idle}
 use Rattle.reading.proofs.Rest.{rest-not-yet}
 use Rattle.reading.proofs.Frames.{replies-append, sizes-append}
 use Rattle.reading.proofs.Joined.{reading-joined}
-use Rattle.reading.proofs.Search.{search-ends, search-account, search-reading}
+use Rattle.reading.proofs.Search.{search-account, found-fewer, search-reading}
 
 -- what accounts for as many bytes, and agrees otherwise, has passed as many
 same-searched : {R : Type 0} (s t : Searched R) → s .replies ≡ t .replies → s .handed ≡ t .handed → s .rest ≡ t .rest
@@ -22,19 +22,11 @@ same-searched s t p h e a =
     λ i. record { replies = p i; handed = h i; passed = q i; rest = e i }
 
 module _ {R : Type 0} (judge : Judge R) (steady : Steady judge) where
-  -- a search that finds a frame leaves fewer bytes
-  fewer : (k : ℕ) (l : List ℕ) (over n : ℕ) (r : R) (after : List ℕ) → search judge l ≡ found over n r after → length l ≤ suc k → length after ≤ k
-  fewer k l over n r after e h =
-      let a : over + n + length after ≡ length l = subst (λ (s : Search R). movedOver s + sizeFound s + length (restOf s) ≡ length l) e (search-account judge steady l) in
-      let g = subst (Ends judge l) e (search-ends judge steady l) in
-      let p : 0 < n = steady .sized (drop over l) n r (g .0) .0 in
-      omega arith
-
   agrees-at : (k place : ℕ) (l : List ℕ) (s : Search R) → search judge l ≡ s → length l ≤ suc k
       → ((at : ℕ) (m : List ℕ) → length m ≤ k → Agrees (searchTurns judge k m) (readingFrom judge at m))
       → Agrees (afterSearch s (λ after. searchTurns judge k after)) (readOn judge place s)
   agrees-at k place l (found over n r after) e h ih =
-      let a = ih (place + over + n) after (fewer k l over n r after e h) in
+      let a = ih (place + over + n) after (omega (arith, found-fewer judge steady l over n r after e)) in
       record { replies = ap (λ (q : List R). r ∷ q) (a .replies); handed = ap (λ (m : ℕ). n + m) (a .handed); rest = a .rest }
   agrees-at k place l (nothing over rest) e h ih = record { replies = refl; handed = refl; rest = refl }
 
@@ -77,7 +69,7 @@ module _ {R : Type 0} (judge : Judge R) (steady : Steady judge) where
 
   turn-at : (l : List ℕ) (s : Search R) → search judge l ≡ s → afterSearch s (λ after. searchTurns judge (length l) after) ≡ afterSearch s (searches judge)
   turn-at l (found over n r after) e =
-      let t = searches-enough (length l) after (fewer (length l) l over n r after e (omega arith)) in
+      let t = searches-enough (length l) after (omega (arith, found-fewer judge steady l over n r after e)) in
       ap (λ (o : Searched R). afterSearch (found over n r after) (λ m. o)) t
   turn-at l (nothing over rest) e = refl
 
