@@ -12,7 +12,7 @@ use Rattle.reading.specs.Searching.{Search, found, nothing, sizeFound, further,
 use Rattle.reading.proofs.Search.{further-further, search-good, search-not-yet, search-noise, found-account, nothing-account}
 use Rattle.line.specs.Line.{Line, raised, isFound, replyFound, lineAfter, nextGiven, nextCount, nextReply, nextLine}
 use Rattle.refusals.specs.Refusals.{Answer}
-use Rattle.envelope.specs.Envelope.{payloadOf, judgeOf}
+use Rattle.envelope.specs.Envelope.{payloadPart, judgeOf}
 use Rattle.envelope.proofs.Readers.{drop-take}
 use Rattle.reply.proofs.Prefix.{decode-sized}
 use Rattle.reply.specs.declared.CommandReply.{CommandReply}
@@ -44,11 +44,11 @@ seek-moves l over so e =
     so ∙ ap (further over) (search-noise frames frames-steady (drop over l) e) ∙ further-further over 1 (search frames (drop 1 (drop over l)))
     ∙ ap (λ (m : List ℕ). further (over + 1) (search frames m)) (drop-drop 1 over l)
 
-pub seek-found : (l : List ℕ) (over count : ℕ) → SoFar l over → frames (drop over l) ≡ takes count (replyOf (payloadOf (count - 5) (drop over l)))
+pub seek-found : (l : List ℕ) (over count : ℕ) → SoFar l over → frames (drop over l) ≡ takes count (replyOf (payloadPart (count - 5) (drop over l)))
     → searchOf l (Found over count) ≡ search frames l
 seek-found l over count so e =
     sym (so ∙ ap (further over) (search-good frames frames-steady (drop over l) count _ e)
-    ∙ (λ i. found (add-zero over i) count (replyOf (payloadOf (count - 5) (drop over l))) (drop-drop count over l i)))
+    ∙ (λ i. found (add-zero over i) count (replyOf (payloadPart (count - 5) (drop over l))) (drop-drop count over l i)))
 
 pub seek-waits : (l : List ℕ) (over : ℕ) → SoFar l over → frames (drop over l) ≡ notYet → searchOf l (Nothing over) ≡ search frames l
 seek-waits l over so e =
@@ -75,8 +75,8 @@ pub told : (l : List ℕ) (r variant : Sought) → r ≡ variant → searchOf l 
 told l r variant e sought = ap (searchOf l) (sym e) ∙ sought
 
 -- the payload part of the frame behind `over` bytes
-pub payload-part : (l : List ℕ) (over count : ℕ) → 6 ≤ count → take (over + count - 3 - (over + 2)) (drop (over + 2) l) ≡ payloadOf (count - 5) (drop over l)
-unfolding payloadOf
+pub payload-part : (l : List ℕ) (over count : ℕ) → 6 ≤ count → take (over + count - 3 - (over + 2)) (drop (over + 2) l) ≡ payloadPart (count - 5) (drop over l)
+unfolding payloadPart
 payload-part l over count h =
     let n : over + count - 3 - (over + 2) ≡ count - 5 = omega arith in
     λ i. take (n i) (sym (drop-drop 2 over l) i)
@@ -140,7 +140,7 @@ module _ (self d : Decoder) (h : Holds (lineOf self) d) (r : Next) where
         ∙ further-unread (d .buf) (d .rpos) (d .wpos) n
 
     pub next-found : (over count : ℕ) → searchOf (fieldsLine d .unread) (Found over count) ≡ search frames (fieldsLine d .unread) → r .given ≡ true → r .count ≡ count
-        → r .reply ≡ replyOf (payloadOf (count - 5) (drop over (fieldsLine d .unread))) → r .decoder .rpos ≡ d .rpos + over + count
+        → r .reply ≡ replyOf (payloadPart (count - 5) (drop over (fieldsLine d .unread))) → r .decoder .rpos ≡ d .rpos + over + count
         → r .decoder .handed ≡ raised (d .handed) count → r .decoder .passed ≡ raised (d .passed) over → NextIs self r
     next-found over count e there n reply er eh ep =
         let fits : d .rpos + (over + count) ≤ d .wpos = omega (arith, found-room d (h .sound) over count e) in

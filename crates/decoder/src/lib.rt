@@ -7,7 +7,7 @@ ghost use lib.ListN.{length, drop};
 ghost use lib.Seq.{paste};
 ghost use Rattle.reading.specs.Searching.{search};
 ghost use Rattle.line.specs.Line.{fresh, atMost, raised, moved, cleared, fitting, copied};
-ghost use Rattle.envelope.specs.Envelope.{payloadOf};
+ghost use Rattle.envelope.specs.Envelope.{payloadPart};
 ghost use Rattle.reply.specs.Reply.{replyOf};
 ghost use Rattle.decoder.specs.Frames.{frames};
 ghost use Rattle.decoder.specs.State.{lineOf, Sound, Holds, FeedIs, NextIs, heldOf, figuresOf, searchOf};
@@ -122,7 +122,7 @@ fn seek(unread: &[u8]) -> Sought
 // The reply of the good frame that `seek` found: its payload part goes to the field readers.
 fn reply_at(unread: &[u8], over: usize, count: usize) -> CommandReply
     requires { ⌜ (6 ≤ count) × (over + count ≤ length (now unread)) ⌝ }
-    ensures { λ r. ⌜ r ≡ replyOf (payloadOf (count - 5) (drop over (now (unread .entry)))) ⌝ }
+    ensures { λ r. ⌜ r ≡ replyOf (payloadPart (count - 5) (drop over (now (unread .entry)))) ⌝ }
 {
     let start = over + 2;
     let end = over + count - 3;

@@ -7,7 +7,7 @@ use lib.ListN.{getD, take, drop}
 use lib.Seq.{getD-take, take-take}
 use Rattle.refusals.specs.Refusals.{given}
 use Rattle.checksum.specs.Xmodem.{checksumOf}
-use Rattle.envelope.specs.Envelope.{payloadOf, judgeOf}
+use Rattle.envelope.specs.Envelope.{payloadPart, judgeOf}
 use Rattle.envelope.proofs.Places.{own-there, number-own}
 use Rattle.envelope.proofs.Readers.{drop-take}
 use Rattle.envelope.proofs.Replies.{reads-fields}
@@ -15,8 +15,8 @@ use Rattle.envelope.proofs.Good.{GoodFrame, judge-good, good-judged}
 use Rattle.envelope.proofs.Sized.{judge-sized}
 
 -- the payload lies in the frame's own bytes
-pub payload-own : (n end : ℕ) (s : List ℕ) → n + 2 ≤ end → payloadOf n (take end s) ≡ payloadOf n s
-unfolding payloadOf
+pub payload-own : (n end : ℕ) (s : List ℕ) → n + 2 ≤ end → payloadPart n (take end s) ≡ payloadPart n s
+unfolding payloadPart
 payload-own n end s before =
     let inside : n ≤ end - 2 = omega arith in
     rw (drop-take 2 end s, take-take n (end - 2) (drop 2 s) inside)

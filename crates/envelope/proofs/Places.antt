@@ -16,7 +16,7 @@ use Rattle.packer.specs.declared.Consumed.the-variants.{To}
 use Rattle.packer.proofs.Places.{got}
 use Rattle.names.proofs.Places.{none}
 use Rattle.fields.proofs.OwnBytes.{number-prefix}
-use Rattle.envelope.specs.Envelope.{andThen, byteAt, payloadOf}
+use Rattle.envelope.specs.Envelope.{andThen, byteAt, payloadPart}
 use Rattle.envelope.proofs.Answers.{Known, Kept, known-given}
 
 -- ---- what a read's test decides
@@ -128,8 +128,8 @@ module _ (so-far : Consumed) (at width : ℕ) (s : List ℕ) (here : so-far ≡ 
 
 -- ---- the payload
 
-pub payload-kept : (n : ℕ) (xs ys : List ℕ) → n + 2 ≤ length xs → payloadOf n (xs ++ ys) ≡ payloadOf n xs
-unfolding payloadOf
+pub payload-kept : (n : ℕ) (xs ys : List ℕ) → n + 2 ≤ length xs → payloadPart n (xs ++ ys) ≡ payloadPart n xs
+unfolding payloadPart
 payload-kept n xs ys there =
     let two : 2 ≤ length xs = omega arith in
     let payload : n ≤ length (drop 2 xs) = simp length-drop (omega arith) in

@@ -1,7 +1,7 @@
 -- The line figures: through any calls whatever, fed is handed, passed and held together, while fed is below its top. Assumes nothing.
 use mathlib.Core.Path.{_≡_, refl}
 use mathlib.Core.List.{List, [], _∷_}
-use mathlib.Core.Bool.{Bool, true, false}
+use mathlib.Core.Bool.{Bool, true, false, cond}
 use Prim.Native.Nat.{ℕ, _+_, _-_, _<_, _≤_}
 use native.Mathlib.Omega.{arith}
 use lib.Dec.{ltb, eqb}
@@ -10,7 +10,7 @@ use lib.Seq.{length-take-le}
 use Rattle.reading.specs.Reading.{Judge, Steady}
 use Rattle.reading.specs.Searching.{Search, found, nothing, movedOver, sizeFound, restOf, search}
 use Rattle.reading.proofs.Search.{search-account}
-use Rattle.line.specs.Line.{Line, fresh, choose, top, atFront, moved, emptied, cleared, fitting, copied, feedCount, feedLine, lineAfter, nextLine}
+use Rattle.line.specs.Line.{Line, fresh, top, atFront, moved, emptied, cleared, fitting, copied, feedCount, feedLine, lineAfter, nextLine}
 use Rattle.line.specs.Calling.{Call, feeds, asksNext, called, afterCalls, Balanced}
 use Rattle.line.proofs.Figures.{held, raised-below, raised-exact}
 
@@ -25,7 +25,7 @@ moved-keeps : (n : ℕ) (line : Line) → Keeps line (moved n line)
 unfolding moved
 moved-keeps n line = by (ltb (512 - line .wpos) n)
   where
-    by : (b : Bool) → Keeps line (choose b (atFront line) line)
+    by : (b : Bool) → Keeps line (cond b (atFront line) line)
     by true = record { same-fed = refl; balanced = λ t h. h }
     by false = record { same-fed = refl; balanced = λ t h. h }
 
@@ -33,7 +33,7 @@ cleared-keeps : (line : Line) → Keeps line (cleared line)
 unfolding cleared
 cleared-keeps line = by (eqb (line .wpos) 512)
   where
-    by : (b : Bool) → Keeps line (choose b (emptied line) line)
+    by : (b : Bool) → Keeps line (cond b (emptied line) line)
     by true = record { same-fed = refl; balanced = λ t h. omega (arith, raised-exact (line .passed) (length (line .unread)) (omega arith)) }
     by false = record { same-fed = refl; balanced = λ t h. h }
 
