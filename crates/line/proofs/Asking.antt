@@ -6,9 +6,9 @@ use Prim.Native.Nat.{ℕ, zero, suc, _<_}
 use native.Mathlib.Omega.{arith}
 use lib.ListN.{length}
 use Rattle.reading.specs.Reading.{Judge, Steady}
-use Rattle.reading.specs.Searching.{Search, found, nothing, search, Searched, afterSearch, searchTurns, searches}
+use Rattle.reading.specs.Searching.{Search, found, nothing, search}
 use Rattle.reading.proofs.Search.{search-not-yet, found-fewer}
-use Rattle.reading.proofs.Searches.{searches-enough, searches-account, searches-rest}
+use Rattle.reading.proofs.Searches.{Searched, afterSearch, searchTurns, searches, searches-enough, searches-account, searches-rest}
 use Rattle.line.specs.Line.{Line, isFound, replyFound, lineAfter, nextGiven, nextReply, nextLine}
 use Rattle.line.specs.Playing.{Played, stays, replyThen, askTurns, asks}
 use Rattle.line.proofs.Feeding.{Fits}

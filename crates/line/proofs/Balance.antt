@@ -8,8 +8,8 @@ use lib.Dec.{ltb, eqb}
 use lib.ListN.{length, take, length-append}
 use lib.Seq.{length-take-le}
 use Rattle.reading.specs.Reading.{Judge, Steady}
-use Rattle.reading.specs.Searching.{Search, found, nothing, movedOver, sizeFound, restOf, search}
-use Rattle.reading.proofs.Search.{search-account}
+use Rattle.reading.specs.Searching.{Search, found, nothing, sizeFound, search}
+use Rattle.reading.proofs.Search.{movedOver, restOf, search-account}
 use Rattle.line.specs.Line.{Line, fresh, top, atFront, moved, emptied, cleared, fitting, copied, feedCount, feedLine, lineAfter, nextLine}
 use Rattle.line.specs.Calling.{Call, feeds, asksNext, called, afterCalls, Balanced}
 use Rattle.line.proofs.Figures.{held, raised-below, raised-exact}

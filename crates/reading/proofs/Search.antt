@@ -6,14 +6,36 @@ use native.Mathlib.Omega.{arith}
 use native.Mathlib.Nat.{add-zero, add-assoc, zero-add}
 use lib.ListN.{length, drop, length-drop}
 use lib.Seq.{drop-drop}
-use Rattle.reading.specs.Reading.{Verdict, takes, notYet, movesOn, Judge, Steady, gives, readingFrom}
-use Rattle.reading.specs.Searching.{Search, found, nothing, movedOver, sizeFound, restOf, further, searchAt, search, Ends, readOn}
+use Rattle.reading.specs.Reading.{Verdict, takes, notYet, movesOn, Judge, Reading, Steady, stops, gives, readingFrom}
+use Rattle.reading.specs.Searching.{Search, found, nothing, sizeFound, further, searchAt, search}
 use Rattle.reading.proofs.Turns.{by-reading, idle, at-good-frame, at-noise, noise-some}
 
 -- A search begun b bytes earlier, and that a bytes earlier.
 pub further-further : {R : Type 0} (a b : ℕ) (s : Search R) → further a (further b s) ≡ further (a + b) s
 further-further a b (found over n r after) = ap (λ (k : ℕ). found k n r after) (sym (add-assoc a b over))
 further-further a b (nothing over rest) = ap (λ (k : ℕ). nothing k rest) (sym (add-assoc a b over))
+
+module _ {R : Type 0} where
+  -- the bytes that a search moved over, found a frame or not
+  abbrev pub movedOver : Search R → ℕ
+  movedOver (found over n r after) = over
+  movedOver (nothing over rest) = over
+
+  -- what it leaves unread
+  abbrev pub restOf : Search R → List ℕ
+  restOf (found over n r after) = after
+  restOf (nothing over rest) = rest
+
+  module _ (judge : Judge R) where
+    -- what a search of l may come to: a good frame where it ended, or "not yet" there; and the bytes behind are left
+    abbrev pub Ends : List ℕ → Search R → Type 0
+    Ends l (found over n r after) = (judge (drop over l) ≡ takes n r) × (after ≡ drop (over + n) l)
+    Ends l (nothing over rest) = (judge (drop over l) ≡ notYet) × (rest ≡ drop over l)
+
+    -- the frame that a search from `place` on found is given, and then what the reading of the bytes after it gives
+    abbrev pub readOn : ℕ → Search R → Reading R
+    readOn place (found over n r after) = gives (record { place = place + over; size = n; reply = r }) (readingFrom judge (place + over + n) after)
+    readOn place (nothing over rest) = stops rest
 
 accounts-further : {R : Type 0} (s : Search R) → movedOver (further 1 s) + sizeFound (further 1 s) + length (restOf (further 1 s)) ≡ suc (movedOver s + sizeFound s + length (restOf s))
 accounts-further (found over n r after) = omega arith

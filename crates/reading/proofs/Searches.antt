@@ -5,13 +5,50 @@ use Prim.Native.Nat.{ℕ, zero, suc, _+_, _≤_}
 use native.Mathlib.Omega.{arith}
 use native.Mathlib.Nat.{le-refl, not-suc-le-zero}
 use lib.ListN.{length, length-append}
-use Rattle.reading.specs.Reading.{notYet, Judge, Steady, readingFrom, unreadPlace}
-use Rattle.reading.specs.Searching.{Search, found, nothing, movedOver, sizeFound, restOf, search, readOn, Searched, afterSearch, searchTurns, searches, andThen, Agrees}
+use Rattle.reading.specs.Reading.{notYet, Judge, Reading, Steady, readingFrom, repliesOf, unreadPlace}
+use Rattle.reading.specs.Searching.{Search, found, nothing, sizeFound, search}
 use Rattle.reading.proofs.Turns.{idle}
 use Rattle.reading.proofs.Rest.{rest-not-yet}
-use Rattle.reading.proofs.Frames.{replies-append, sizes-append}
+use Rattle.reading.proofs.Frames.{sizesOf, replies-append, sizes-append}
 use Rattle.reading.proofs.Joined.{reading-joined}
-use Rattle.reading.proofs.Search.{search-account, found-fewer, search-reading}
+use Rattle.reading.proofs.Search.{movedOver, restOf, readOn, search-account, found-fewer, search-reading}
+
+-- what searching again and again comes to, until nothing is found
+pub record Searched (R : Type 0) : Type 0 where
+  pub replies : List R
+  -- the bytes of the frames found
+  pub handed : ℕ
+  -- the bytes moved over
+  pub passed : ℕ
+  pub rest : List ℕ
+
+-- it came to what the reading o gives and leaves
+pub record Agrees {R : Type 0} (s : Searched R) (o : Reading R) : Type 0 where
+  pub replies : s .replies ≡ repliesOf (o .given)
+  pub handed : s .handed ≡ sizesOf (o .given)
+  pub rest : s .rest ≡ o .rest
+
+module _ {R : Type 0} where
+  -- a frame found, and then what `again` makes of the bytes after it; or nothing
+  abbrev pub afterSearch : Search R → (List ℕ → Searched R) → Searched R
+  afterSearch (found over n r after) again =
+      let s = again after in
+      record { replies = r ∷ s .replies; handed = n + s .handed; passed = over + s .passed; rest = s .rest }
+  afterSearch (nothing over rest) again = record { replies = []; handed = 0; passed = over; rest = rest }
+
+  -- what one searching came to, and then another
+  abbrev pub andThen : Searched R → Searched R → Searched R
+  andThen s t = record { replies = s .replies ++ t .replies; handed = s .handed + t .handed; passed = s .passed + t .passed; rest = t .rest }
+
+  module _ (judge : Judge R) where
+    -- at most so many searches. One that finds a frame takes a byte or more, so the length of the list is enough of them
+    unfoldable pub searchTurns : ℕ → List ℕ → Searched R
+    searchTurns zero l = record { replies = []; handed = 0; passed = 0; rest = l }
+    searchTurns (suc k) l = afterSearch (search judge l) (λ after. searchTurns k after)
+
+    -- search until nothing is found
+    unfoldable pub searches : List ℕ → Searched R
+    searches l = searchTurns (length l) l
 
 -- what accounts for as many bytes, and agrees otherwise, has passed as many
 same-searched : {R : Type 0} (s t : Searched R) → s .replies ≡ t .replies → s .handed ≡ t .handed → s .rest ≡ t .rest
