@@ -101,7 +101,7 @@ pub bytes-got : (width : ℕ) (s : List ℕ) (at : ℕ) → at + width ≤ lengt
 unfolding consumeAt
 bytes-got width s at there = rw (le-leb (at + width) (length s) there)
 
-pub bytes-lacking : (width : ℕ) (s : List ℕ) (at : ℕ) → length s < at + width → consumeAt width s at ≡ refused incompleteData
+bytes-lacking : (width : ℕ) (s : List ℕ) (at : ℕ) → length s < at + width → consumeAt width s at ≡ refused incompleteData
 unfolding consumeAt
 bytes-lacking width s at past = rw (lt-leb (at + width) (length s) past)
 

@@ -28,7 +28,7 @@ module _ {R : Type 0} where
 
   module _ (judge : Judge R) where
     -- what a search of l may come to: a good frame where it ended, or "not yet" there; and the bytes behind are left
-    abbrev pub Ends : List ℕ → Search R → Type 0
+    abbrev Ends : List ℕ → Search R → Type 0
     Ends l (found over n r after) = (judge (drop over l) ≡ takes n r) × (after ≡ drop (over + n) l)
     Ends l (nothing over rest) = (judge (drop over l) ≡ notYet) × (rest ≡ drop over l)
 
@@ -73,7 +73,7 @@ module _ {R : Type 0} (judge : Judge R) (steady : Steady judge) where
   ends-further l (nothing over rest) h = (ap judge (sym (drop-drop over 1 l)) ∙ h .0, h .1 ∙ drop-drop over 1 l)
 
   -- A search ends at a good frame, or where the judge says "not yet", and leaves the bytes behind.
-  pub search-ends : (l : List ℕ) → Ends judge l (search judge l)
+  search-ends : (l : List ℕ) → Ends judge l (search judge l)
   search-ends =
       by-reading judge steady (λ place l. Ends judge l (search judge l))
       (λ place l e. subst (Ends judge l) (sym (search-not-yet l e)) (e, refl))
