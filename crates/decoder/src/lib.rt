@@ -52,8 +52,6 @@ enum Sought {
     Nothing(usize),
 }
 
-const FRAME_START_SHORT: u8 = 2;
-
 const TOP: u64 = 18446744073709551615;
 
 // A figure, `n` higher, held at the top value.
@@ -104,7 +102,7 @@ fn seek(unread: &[u8]) -> Sought
 {
     let mut over: usize = 0;
     while over < unread.len() {
-        if unread[over] == FRAME_START_SHORT {
+        if unread[over] == envelope::FRAME_START_SHORT {
             match envelope::judge(&unread[over..]) {
                 Judged::Good(count) => return Sought::Found(over, count),
                 Judged::Refused(error) => {
