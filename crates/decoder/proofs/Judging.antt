@@ -10,24 +10,24 @@ use lib.ListN.{length, getD}
 use Rattle.refusals.specs.Refusals.{Refusal, Answer, given, refused, incompleteData, invalidFrame, decodeRefusal}
 use Rattle.refusals.specs.declared.DecodeError.{DecodeError}
 use Rattle.refusals.specs.declared.DecodeError.the-variants.{IncompleteData, InvalidFrame, UnknownPacket, ChecksumMismatch}
-use Rattle.envelope.specs.Envelope.{judged, payloadOf, judgeOf}
+use Rattle.envelope.specs.Envelope.{judged, payloadPart, judgeOf}
 use Rattle.envelope.specs.declared.Judged.{Judged}
 use Rattle.envelope.specs.declared.Judged.the-variants.{Good, Refused}
-use Rattle.envelope.proofs.Sized.{judge-empty}
+use Rattle.envelope.proofs.Frames as judged-frames
 use Rattle.envelope.proofs.Order.{start-wrong}
 use Rattle.reply.specs.declared.CommandReply.{CommandReply}
 use Rattle.reply.specs.Reply.{replyOf}
 use Rattle.reply.specs.Decode.{Decode, replyBy, decodeOf}
 use Rattle.reply.proofs.Prefix.{decode-prefix, decode-full, decode-sized}
 use Rattle.reading.specs.Reading.{takes, notYet, movesOn, Steady, Bounded}
-use Rattle.decoder.specs.Frames.{isOne, stopsIf, verdictOf, frames}
+use Rattle.decoder.specs.Frames.{isIncompleteData, stopsIf, verdictOf, frames}
 
 -- ---- what a verdict was made from
 
 none : {A : Type 0} → _≡_ {A = ℕ} 0 1 → A
 none z = absurd (omega arith)
 
-one-is : (number : ℕ) (values : List ℕ) (b : Bool) → isOne number values ≡ b → stopsIf b ≡ notYet → _≡_ {A = Refusal} (record { number = number; values = values }) incompleteData
+one-is : (number : ℕ) (values : List ℕ) (b : Bool) → isIncompleteData number values ≡ b → stopsIf b ≡ notYet → _≡_ {A = Refusal} (record { number = number; values = values }) incompleteData
 one-is number [] true e q = let n : number ≡ 1 = eqb-true number 1 e in λ i. record { number = n i; values = [] }
 one-is number (value ∷ values) true e q = none (cc)
 one-is number values false e q = none (cc)
@@ -38,7 +38,7 @@ waits-by (refused why) reply e = ap refused (one-is (why .number) (why .values) 
 
 takes-by : (a : Answer ℕ) (reply : CommandReply) (n : ℕ) (r : CommandReply) → verdictOf a reply ≡ takes n r → a ≡ given n
 takes-by (given count) reply n r e = cc
-takes-by (refused why) reply n r e = never (isOne (why .number) (why .values)) e
+takes-by (refused why) reply n r e = never (isIncompleteData (why .number) (why .values)) e
   where
     never : (b : Bool) → stopsIf b ≡ takes n r → refused why ≡ given n
     never true q = none (cc)
@@ -60,7 +60,7 @@ frames-steady =
     record {
       prefix = λ xs ys told. ap (λ (d : Decode). verdictOf (d .answer) (d .reply)) (decode-prefix xs ys (λ e. told (incomplete-waits xs e)));
       sized = λ xs n r e. let s = decode-sized xs n (good-frame xs n r e) in (omega arith, s .1);
-      empty = incomplete-waits [] judge-empty;
+      empty = incomplete-waits [] (judged-frames.frames .empty);
     }
 
 -- "So `decode` of 110 bytes or more never answers 1."
@@ -70,7 +70,7 @@ frames-bounded = record { told = λ xs enough e. decode-full xs enough (waits-by
 
 -- ---- by what the bytes are judged to be
 
-pub frames-takes : (l : List ℕ) (count : ℕ) → judgeOf l ≡ given count → frames l ≡ takes count (replyOf (payloadOf (count - 5) l))
+pub frames-takes : (l : List ℕ) (count : ℕ) → judgeOf l ≡ given count → frames l ≡ takes count (replyOf (payloadPart (count - 5) l))
 unfolding frames decodeOf replyBy
 frames-takes l count e = ap (λ (a : Answer ℕ). verdictOf a (replyBy a l)) e
 
@@ -78,12 +78,12 @@ pub frames-waits : (l : List ℕ) → judgeOf l ≡ refused incompleteData → f
 unfolding decodeOf
 frames-waits l e = incomplete-waits l e
 
-moves-by : (number : ℕ) (values : List ℕ) (b : Bool) → isOne number values ≡ b → (number ≡ 1 → ⊥) → stopsIf b ≡ movesOn
+moves-by : (number : ℕ) (values : List ℕ) (b : Bool) → isIncompleteData number values ≡ b → (number ≡ 1 → ⊥) → stopsIf b ≡ movesOn
 moves-by number [] true q differs = absurd (differs (eqb-true number 1 q))
 moves-by number (value ∷ values) true q differs = none (cc)
 moves-by number values false q differs = refl
 
-pub frames-moves : (l : List ℕ) (why : Refusal) → judgeOf l ≡ refused why → (why .number ≡ 1 → ⊥) → frames l ≡ movesOn
+frames-moves : (l : List ℕ) (why : Refusal) → judgeOf l ≡ refused why → (why .number ≡ 1 → ⊥) → frames l ≡ movesOn
 unfolding frames decodeOf
 frames-moves l why e differs = ap (λ (a : Answer ℕ). verdictOf a (replyBy (judgeOf l) l)) e ∙ moves-by (why .number) (why .values) _ refl differs
 
@@ -100,7 +100,7 @@ incomplete (UnknownPacket id) one = absurd (omega arith)
 incomplete (ChecksumMismatch expected actual) one = absurd (omega arith)
 
 module _ (l : List ℕ) (a : Judged) (answers : judged a ≡ judgeOf l) where
-  pub answer-good : (count : ℕ) → a ≡ Good count → frames l ≡ takes count (replyOf (payloadOf (count - 5) l))
+  pub answer-good : (count : ℕ) → a ≡ Good count → frames l ≡ takes count (replyOf (payloadPart (count - 5) l))
   answer-good count e = frames-takes l count (sym answers ∙ ap judged e)
 
   pub answer-waits : (error : DecodeError) → a ≡ Refused error → decodeRefusal error .number ≡ 1 → frames l ≡ notYet

@@ -6,7 +6,7 @@ use mathlib.Core.List.{List, [], _∷_, _++_}
 use Prim.Native.Nat.{ℕ}
 use native.Mathlib.Omega.{arith}
 use lib.ListN.{replicate}
-use Rattle.envelope.specs.Envelope.{payloadOf}
+use Rattle.envelope.specs.Envelope.{payloadPart}
 use Rattle.envelope.proofs.Frames as judged-frames
 use Rattle.envelope.proofs.OwnBytes.{judge-own-bytes}
 use Rattle.reading.specs.Reading.{movesOn, Reading, stops, reading, joined}
@@ -36,7 +36,7 @@ rest-alone =
     ∙ idle frames frames-steady 3 [] (frames-steady .empty)
 
 cut : Cut frames emptyReply frames-steady 509 0 (2 ∷ 1 ∷ 129 ∷ []) (129 ∷ 169 ∷ 3 ∷ []) (replyOf (129 ∷ []))
-unfolding payloadOf
+unfolding payloadPart
 cut =
     record {
       quiet = λ l. noise 0 l (λ e. omega arith);

@@ -8,11 +8,12 @@ use native.Mathlib.Nat.{zero-add, add-zero}
 use lib.ListN.{length, take, drop, getD, length-drop}
 use lib.Seq.{drop-drop, drop-length, take-all, getD-drop}
 use Rattle.reading.specs.Reading.{takes, notYet, movesOn}
-use Rattle.reading.specs.Searching.{Search, found, nothing, movedOver, sizeFound, restOf, further, search, Ends}
-use Rattle.reading.proofs.Search.{further-further, search-good, search-not-yet, search-noise, search-account, search-ends}
+use Rattle.reading.specs.Searching.{Search, found, nothing, sizeFound, further, search}
+use Rattle.reading.proofs.Search.{further-further, search-good, search-not-yet, search-noise, found-account, nothing-account}
 use Rattle.line.specs.Line.{Line, raised, isFound, replyFound, lineAfter, nextGiven, nextCount, nextReply, nextLine}
 use Rattle.refusals.specs.Refusals.{Answer}
-use Rattle.envelope.specs.Envelope.{payloadOf, judgeOf}
+use Rattle.envelope.specs.Envelope.{payloadPart, judgeOf}
+use Rattle.envelope.proofs.Readers.{drop-take}
 use Rattle.reply.proofs.Prefix.{decode-sized}
 use Rattle.reply.specs.declared.CommandReply.{CommandReply}
 use Rattle.reply.specs.Reply.{emptyReply, replyOf}
@@ -22,7 +23,7 @@ use Rattle.decoder.specs.declared.Sought.{Sought}
 use Rattle.decoder.specs.declared.Sought.the-variants.{Found, Nothing}
 use Rattle.decoder.specs.Frames.{frames}
 use Rattle.decoder.specs.State.{lineOf, fieldsLine, Sound, Holds, NextIs, searchOf}
-use Rattle.decoder.proofs.States.{sound-line, holds, unread-length, drop-take}
+use Rattle.decoder.proofs.States.{sound-line, holds, unread-length}
 use Rattle.decoder.proofs.Judging.{frames-steady, frames-start, good-frame}
 
 -- ---- the loop
@@ -43,11 +44,11 @@ seek-moves l over so e =
     so ∙ ap (further over) (search-noise frames frames-steady (drop over l) e) ∙ further-further over 1 (search frames (drop 1 (drop over l)))
     ∙ ap (λ (m : List ℕ). further (over + 1) (search frames m)) (drop-drop 1 over l)
 
-pub seek-found : (l : List ℕ) (over count : ℕ) → SoFar l over → frames (drop over l) ≡ takes count (replyOf (payloadOf (count - 5) (drop over l)))
+pub seek-found : (l : List ℕ) (over count : ℕ) → SoFar l over → frames (drop over l) ≡ takes count (replyOf (payloadPart (count - 5) (drop over l)))
     → searchOf l (Found over count) ≡ search frames l
 seek-found l over count so e =
     sym (so ∙ ap (further over) (search-good frames frames-steady (drop over l) count _ e)
-    ∙ (λ i. found (add-zero over i) count (replyOf (payloadOf (count - 5) (drop over l))) (drop-drop count over l i)))
+    ∙ (λ i. found (add-zero over i) count (replyOf (payloadPart (count - 5) (drop over l))) (drop-drop count over l i)))
 
 pub seek-waits : (l : List ℕ) (over : ℕ) → SoFar l over → frames (drop over l) ≡ notYet → searchOf l (Nothing over) ≡ search frames l
 seek-waits l over so e =
@@ -74,8 +75,8 @@ pub told : (l : List ℕ) (r variant : Sought) → r ≡ variant → searchOf l 
 told l r variant e sought = ap (searchOf l) (sym e) ∙ sought
 
 -- the payload part of the frame behind `over` bytes
-pub payload-part : (l : List ℕ) (over count : ℕ) → 6 ≤ count → take (over + count - 3 - (over + 2)) (drop (over + 2) l) ≡ payloadOf (count - 5) (drop over l)
-unfolding payloadOf
+pub payload-part : (l : List ℕ) (over count : ℕ) → 6 ≤ count → take (over + count - 3 - (over + 2)) (drop (over + 2) l) ≡ payloadPart (count - 5) (drop over l)
+unfolding payloadPart
 payload-part l over count h =
     let n : over + count - 3 - (over + 2) ≡ count - 5 = omega arith in
     λ i. take (n i) (sym (drop-drop 2 over l) i)
@@ -83,18 +84,12 @@ payload-part l over count h =
 -- A frame that was found lies within the unread bytes, and has 6 bytes or more.
 pub found-within : (l : List ℕ) (over count : ℕ) → searchOf l (Found over count) ≡ search frames l → (6 ≤ count) × (over + count ≤ length l)
 found-within l over count e =
-    let a : over + count + length (drop (over + count) l) ≡ length l =
-    subst (λ (s : Search CommandReply). movedOver s + sizeFound s + length (restOf s) ≡ length l) (sym e) (search-account frames frames-steady l) in
-    let g = subst (Ends frames l) (sym e) (search-ends frames frames-steady l) in
-    let n = decode-sized (drop over l) count (good-frame (drop over l) count _ (g .0)) in
-    (n .0, omega arith)
+    let a = found-account frames frames-steady l over count _ _ (sym e) in
+    (decode-sized (drop over l) count (good-frame (drop over l) count _ (a .0)) .0, omega (arith, a .1))
 
 -- No more bytes are moved over than there are.
-pub nothing-within : (l : List ℕ) (over : ℕ) → searchOf l (Nothing over) ≡ search frames l → over ≤ length l
-nothing-within l over e =
-    let a : over + 0 + length (drop over l) ≡ length l =
-    subst (λ (s : Search CommandReply). movedOver s + sizeFound s + length (restOf s) ≡ length l) (sym e) (search-account frames frames-steady l) in
-    omega arith
+nothing-within : (l : List ℕ) (over : ℕ) → searchOf l (Nothing over) ≡ search frames l → over ≤ length l
+nothing-within l over e = omega (arith, nothing-account frames frames-steady l over _ (sym e))
 
 room : (d : Decoder) → Sound d → length (fieldsLine d .unread) ≡ d .wpos - d .rpos
 room d s = unread-length (d .buf) (d .rpos) (d .wpos) (omega (arith, s .high, s .long))
@@ -109,10 +104,10 @@ pub nothing-room : (d : Decoder) → Sound d → (over : ℕ) → searchOf (fiel
 nothing-room d s over e = omega (arith, nothing-within (fieldsLine d .unread) over e, room d s, s .low)
 
 -- the unread bytes, n further
-further-unread : (b : List ℕ) (r w n : ℕ) → r + n ≤ w → w ≤ length b → take (w - (r + n)) (drop (r + n) b) ≡ drop n (take (w - r) (drop r b))
-further-unread b r w n h k =
+further-unread : (b : List ℕ) (r w n : ℕ) → take (w - (r + n)) (drop (r + n) b) ≡ drop n (take (w - r) (drop r b))
+further-unread b r w n =
     let e : w - r - n ≡ w - (r + n) = omega arith in
-    sym (drop-take (drop r b) n (w - r) (omega arith) (simp length-drop (omega arith)) ∙ (λ i. take (e i) (drop-drop n r b i)))
+    sym (drop-take n (w - r) (drop r b) ∙ (λ i. take (e i) (drop-drop n r b i)))
 
 -- what `next` hands back, from where the search of the unread bytes ended
 record Ended (d : Decoder) (s : Search CommandReply) (r : Next) : Type 0 where
@@ -142,10 +137,10 @@ module _ (self d : Decoder) (h : Holds (lineOf self) d) (r : Next) where
     further-fields : (n : ℕ) → d .rpos + n ≤ d .wpos → r .decoder .rpos ≡ d .rpos + n → fieldsLine (r .decoder) .unread ≡ drop n (fieldsLine d .unread)
     further-fields n fits er =
         (λ i. take (same-wpos i - er i) (drop (er i) (same-buf i)))
-        ∙ further-unread (d .buf) (d .rpos) (d .wpos) n fits (omega (arith, h .sound .high, h .sound .long))
+        ∙ further-unread (d .buf) (d .rpos) (d .wpos) n
 
     pub next-found : (over count : ℕ) → searchOf (fieldsLine d .unread) (Found over count) ≡ search frames (fieldsLine d .unread) → r .given ≡ true → r .count ≡ count
-        → r .reply ≡ replyOf (payloadOf (count - 5) (drop over (fieldsLine d .unread))) → r .decoder .rpos ≡ d .rpos + over + count
+        → r .reply ≡ replyOf (payloadPart (count - 5) (drop over (fieldsLine d .unread))) → r .decoder .rpos ≡ d .rpos + over + count
         → r .decoder .handed ≡ raised (d .handed) count → r .decoder .passed ≡ raised (d .passed) over → NextIs self r
     next-found over count e there n reply er eh ep =
         let fits : d .rpos + (over + count) ≤ d .wpos = omega (arith, found-room d (h .sound) over count e) in

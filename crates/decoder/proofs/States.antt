@@ -6,10 +6,11 @@ use native.Mathlib.Omega.{arith}
 use native.Mathlib.Nat.{sub-zero, zero-add}
 use borrow.Author.Tests.{lt-ltb, le-ltb}
 use lib.ListN.{length, take, drop, length-append, length-drop}
-use lib.Seq.{paste, take-paste, length-paste, length-take-le, take-at, drop-at, take-add, drop-append-le}
+use lib.Seq.{paste, take-paste, length-paste, length-take-le, take-at, drop-append-le}
 use Rattle.line.specs.Line.{Line, fresh, atMost, raised, moved, cleared, fitting, copied}
 use Rattle.line.proofs.Figures.{held}
 use Rattle.line.proofs.Feeding.{line-same, moved-when, moved-not, cleared-when, cleared-not}
+use Rattle.envelope.proofs.Readers.{drop-take}
 use Rattle.decoder.specs.declared.Decoder.{Decoder}
 use Rattle.decoder.specs.State.{lineOf, fieldsLine, Sound, Holds}
 
@@ -44,20 +45,13 @@ moved-unread b r k h =
     ap (λ (n : ℕ). take n (paste b 0 (drop r b) k)) (sub-zero k ∙ sym (zero-add k))
     ∙ take-paste b 0 (drop r b) k (omega arith) (simp length-drop (omega arith))
 
--- the end of what is taken
-pub drop-take : (b : List ℕ) (r w : ℕ) → r ≤ w → w ≤ length b → drop r (take w b) ≡ take (w - r) (drop r b)
-drop-take b r w hr hw =
-    let e : w ≡ r + (w - r) = omega arith in
-    ap (λ (n : ℕ). drop r (take n b)) e ∙ ap (drop r) (take-add r (w - r) b)
-    ∙ drop-at (take r b) (take (w - r) (drop r b)) r (length-take-le r b (omega arith))
-
 -- the unread bytes after n bytes of s were put at w
 put-unread : (b s : List ℕ) (r w n : ℕ) → r ≤ w → w + n ≤ length b → n ≤ length s → take (w + n - r) (drop r (paste b w s n)) ≡ take (w - r) (drop r b) ++ take n s
 put-unread b s r w n hr hw hn =
     let h : r ≤ length (take w b) = rw (length-take-le w b (omega arith)) hr in
     let h2 : r ≤ length (take w b ++ take n s) = simp length-append (omega arith) in
     let m : drop r (take w b ++ take n s) ≡ take (w - r) (drop r b) ++ take n s =
-    drop-append-le r (take w b) (take n s) h ∙ ap (λ (x : List ℕ). x ++ take n s) (drop-take b r w hr (omega arith)) in
+    drop-append-le r (take w b) (take n s) h ∙ ap (λ (x : List ℕ). x ++ take n s) (drop-take r w b) in
     let k : length (take (w - r) (drop r b) ++ take n s) ≡ w + n - r =
     length-append (take (w - r) (drop r b)) (take n s) ∙ (rw (unread-length b r w (omega arith), length-take-le n s hn) (omega arith)) in
     ap (take (w + n - r)) (drop-append-le r (take w b ++ take n s) (drop (w + n) b) h2 ∙ ap (λ (x : List ℕ). x ++ drop (w + n) b) m)

@@ -1,7 +1,7 @@
 -- What a call hands back is the only answer that meets its contract, up to the decoder's unused bytes. Assumes nothing.
 use mathlib.Core.Path.{_≡_, sym, ap, _∙_}
 use mathlib.Core.List.{List}
-use Prim.Native.Nat.{ℕ, _-_}
+use Prim.Native.Nat.{ℕ}
 use native.Mathlib.Omega.{arith}
 use Rattle.line.specs.Line.{Line}
 use Rattle.line.proofs.Feeding.{line-same}

@@ -10,10 +10,11 @@ use Rattle.reply.specs.Decode.{decodeOf}
 use Rattle.reading.specs.Reading.{Verdict, takes, notYet, movesOn, Judge}
 
 -- refusal 1, IncompleteData, with which nothing is returned
-abbrev pub isOne : ℕ → List ℕ → Bool
-isOne number [] = eqb number 1
-isOne number (value ∷ values) = false
+abbrev pub isIncompleteData : ℕ → List ℕ → Bool
+isIncompleteData number [] = eqb number 1
+isIncompleteData number (value ∷ values) = false
 
+-- the reading stops there, or moves on one byte
 abbrev pub stopsIf : Bool → Verdict CommandReply
 stopsIf true = notYet
 stopsIf false = movesOn
@@ -21,7 +22,7 @@ stopsIf false = movesOn
 -- a good frame is given; at refusal 1 the reading stops, at any other it moves on
 abbrev pub verdictOf : Answer ℕ → CommandReply → Verdict CommandReply
 verdictOf (given count) reply = takes count reply
-verdictOf (refused why) reply = stopsIf (isOne (why .number) (why .values))
+verdictOf (refused why) reply = stopsIf (isIncompleteData (why .number) (why .values))
 
 -- the judge of the stream: `decode` of the bytes from a position on
 unfoldable pub frames : Judge CommandReply

@@ -1,15 +1,16 @@
 -- A decoder's state, and what each call hands back. Document 01, "The stream" and "Port order and change of shape": "a state with its 512-byte
 -- buffer, handed in and handed back by each call". What the calls do to the line that it holds is defined in crate `line`. Assumes nothing.
+use mathlib.Core.Bool.{cond}
 use mathlib.Core.List.{List}
 use mathlib.Core.Path.{_≡_}
 use Prim.Native.Nat.{ℕ, _+_, _-_, _≤_}
 use lib.Dec.{ltb}
 use lib.ListN.{length, take, drop}
 use Rattle.reading.specs.Searching.{Search, found, nothing}
-use Rattle.line.specs.Line.{Line, fresh, choose, feedCount, feedLine, nextGiven, nextCount, nextReply, nextLine}
+use Rattle.line.specs.Line.{Line, fresh, feedCount, feedLine, nextGiven, nextCount, nextReply, nextLine}
 use Rattle.reply.specs.declared.CommandReply.{CommandReply}
 use Rattle.reply.specs.Reply.{emptyReply, replyOf}
-use Rattle.envelope.specs.Envelope.{payloadOf}
+use Rattle.envelope.specs.Envelope.{payloadPart}
 use Rattle.decoder.specs.declared.Decoder.{Decoder}
 use Rattle.decoder.specs.declared.Fed.{Fed}
 use Rattle.decoder.specs.declared.Next.{Next}
@@ -25,7 +26,7 @@ fieldsLine d =
 
 -- "A state no calls can make, its read position past its write position or that one past 512, is taken as a fresh one"
 unfoldable pub lineOf : Decoder → Line
-lineOf d = choose (ltb 512 (d .wpos)) fresh (choose (ltb (d .wpos) (d .rpos)) fresh (fieldsLine d))
+lineOf d = cond (ltb 512 (d .wpos)) fresh (cond (ltb (d .wpos) (d .rpos)) fresh (fieldsLine d))
 
 -- a state that is none of those
 pub record Sound (d : Decoder) : Type 0 where
@@ -60,5 +61,5 @@ figuresOf line = record { fed = line .fed; handed = line .handed; passed = line 
 
 -- the search that a `Sought` tells of: bytes moved over, and the count of the frame behind them
 abbrev pub searchOf : List ℕ → Sought → Search CommandReply
-searchOf unread (Found over count) = found over count (replyOf (payloadOf (count - 5) (drop over unread))) (drop (over + count) unread)
+searchOf unread (Found over count) = found over count (replyOf (payloadPart (count - 5) (drop over unread))) (drop (over + count) unread)
 searchOf unread (Nothing over) = nothing over (drop over unread)

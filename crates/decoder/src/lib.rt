@@ -7,13 +7,14 @@ ghost use lib.ListN.{length, drop};
 ghost use lib.Seq.{paste};
 ghost use Rattle.reading.specs.Searching.{search};
 ghost use Rattle.line.specs.Line.{fresh, atMost, raised, moved, cleared, fitting, copied};
-ghost use Rattle.envelope.specs.Envelope.{payloadOf};
+ghost use Rattle.envelope.specs.Envelope.{payloadPart};
 ghost use Rattle.reply.specs.Reply.{replyOf};
 ghost use Rattle.decoder.specs.Frames.{frames};
 ghost use Rattle.decoder.specs.State.{lineOf, Sound, Holds, FeedIs, NextIs, heldOf, figuresOf, searchOf};
 use envelope::Judged;
 use reply::CommandReply;
 
+// The unread bytes are buf[rpos..wpos]; the figures count since `new`.
 pub struct Decoder {
     pub buf: [u8; 512],
     pub rpos: usize,
@@ -50,8 +51,6 @@ enum Sought {
     Found(usize, usize),
     Nothing(usize),
 }
-
-const FRAME_START_SHORT: u8 = 2;
 
 const TOP: u64 = 18446744073709551615;
 
@@ -103,7 +102,7 @@ fn seek(unread: &[u8]) -> Sought
 {
     let mut over: usize = 0;
     while over < unread.len() {
-        if unread[over] == FRAME_START_SHORT {
+        if unread[over] == envelope::FRAME_START_SHORT {
             match envelope::judge(&unread[over..]) {
                 Judged::Good(count) => return Sought::Found(over, count),
                 Judged::Refused(error) => {
@@ -121,7 +120,7 @@ fn seek(unread: &[u8]) -> Sought
 // The reply of the good frame that `seek` found: its payload part goes to the field readers.
 fn reply_at(unread: &[u8], over: usize, count: usize) -> CommandReply
     requires { ⌜ (6 ≤ count) × (over + count ≤ length (now unread)) ⌝ }
-    ensures { λ r. ⌜ r ≡ replyOf (payloadOf (count - 5) (drop over (now (unread .entry)))) ⌝ }
+    ensures { λ r. ⌜ r ≡ replyOf (payloadPart (count - 5) (drop over (now (unread .entry)))) ⌝ }
 {
     let start = over + 2;
     let end = over + count - 3;
@@ -129,6 +128,7 @@ fn reply_at(unread: &[u8], over: usize, count: usize) -> CommandReply
 }
 
 impl Decoder {
+    // A fresh decoder: nothing is unread, and every figure is 0.
     pub fn new() -> Decoder
         ensures { λ r. ⌜ Holds fresh r ⌝ }
     {
@@ -206,7 +206,8 @@ impl Decoder {
         }
     }
 
-    // Takes as much of the piece as fits. What is not taken is to be fed again.
+    // Takes as much of the piece as fits. What is not taken is to be fed again. Clears what is unread when
+    // 512 bytes lie unread, and on an empty piece when the tail is full: never feed an empty piece.
     pub fn feed(self, piece: &[u8]) -> Fed
         ensures { λ r. ⌜ FeedIs self (now (piece .entry)) r ⌝ }
     {
@@ -259,6 +260,7 @@ impl Decoder {
         decoder.wpos - decoder.rpos
     }
 
+    // The line figures as they stand now.
     pub fn figures(self) -> Figures
         ensures { λ r. ⌜ r ≡ figuresOf (lineOf self) ⌝ }
     {

@@ -6,7 +6,7 @@ use Rattle.checksum.specs.Xmodem.{bringDown, remainder, bitsOfByte, bitsOf, che
 use Rattle.packer.specs.Numbers.{beAt}
 use Rattle.packer.specs.Reading.{readAt, consumeAt}
 use Rattle.fields.specs.Fields.{hasBit, takes, spanOf}
-use Rattle.envelope.specs.Envelope.{byteAt, masked, fieldsEnd, payloadOf, judgeSumOf, finishOf, judgeOf}
+use Rattle.envelope.specs.Envelope.{byteAt, masked, fieldsEnd, payloadPart, judgeSumOf, finishOf, judgeOf}
 
 pub record Frames : Type 0 where
   -- "decode 2 1 129 129 169 3 9 9: 6 bytes, ResetStats."
@@ -32,7 +32,7 @@ pub record Frames : Type 0 where
 
 pub frames : Frames
 unfolding
-    judgeOf byteAt fieldsEnd masked consumeAt spanOf takes hasBit finishOf readAt beAt judgeSumOf payloadOf checksumOf remainder bringDown bitsOf bitsOfByte
+    judgeOf byteAt fieldsEnd masked consumeAt spanOf takes hasBit finishOf readAt beAt judgeSumOf payloadPart checksumOf remainder bringDown bitsOf bitsOfByte
 frames =
     record {
       reset-stats = refl;

@@ -8,7 +8,7 @@ use lib.ListN.{length, drop, length-drop}
 use borrow.Author.Tests.{eqb-true}
 use Rattle.refusals.specs.Refusals.{refused, incompleteData, invalidFrame, checksumMismatch}
 use Rattle.checksum.specs.Xmodem.{checksumOf}
-use Rattle.envelope.specs.Envelope.{payloadOf, judgeSumOf, finishOf, judgeOf}
+use Rattle.envelope.specs.Envelope.{payloadPart, judgeSumOf, finishOf, judgeOf}
 use Rattle.envelope.proofs.Answers.{Known, known-given, known-then, known-unless}
 use Rattle.envelope.proofs.Places.{byte-known, number-known}
 use Rattle.envelope.proofs.Replies.{reads-fields}
@@ -20,7 +20,7 @@ invalid-differs e = omega arith
 sum-known : (s : List ℕ) (n expected : ℕ) → Known (judgeSumOf s n expected)
 unfolding judgeSumOf
 sum-known s n expected =
-    known-unless (eqb expected (checksumOf (payloadOf n s))) (checksumMismatch expected (checksumOf (payloadOf n s))) _ (λ e. omega arith) (λ right. known-given (n + 5))
+    known-unless (eqb expected (checksumOf (payloadPart n s))) (checksumMismatch expected (checksumOf (payloadPart n s))) _ (λ e. omega arith) (λ right. known-given (n + 5))
 
 finish-known : (s : List ℕ) (n : ℕ) → n + 5 ≤ length s → Known (finishOf s n)
 unfolding finishOf

@@ -12,7 +12,7 @@ use Rattle.checksum.specs.Xmodem.{checksumOf}
 use Rattle.packer.specs.Numbers.{beAt}
 use Rattle.packer.specs.Reading.{unsignedAt}
 use Rattle.packer.proofs.Places.{got}
-use Rattle.envelope.specs.Envelope.{byteAt, fieldsEnd, payloadOf, judgeSumOf, finishOf, judgeOf}
+use Rattle.envelope.specs.Envelope.{byteAt, fieldsEnd, payloadPart, judgeSumOf, finishOf, judgeOf}
 use Rattle.envelope.proofs.Answers.{given-same, given-then, given-unless}
 use Rattle.envelope.proofs.Places.{byte-given, number-given}
 use Rattle.envelope.proofs.Order.{end-right, headed}
@@ -23,7 +23,7 @@ pub record GoodFrame (s : List ℕ) (n : ℕ) : Type 0 where
   pub start : getD s 0 0 ≡ 2
   pub declared : n ≡ getD s 1 0
   pub fields : fieldsEnd (getD s 2 0) (drop 2 s) 1 ≡ given n
-  pub sum : beAt s (n + 2) 2 ≡ checksumOf (payloadOf n s)
+  pub sum : beAt s (n + 2) 2 ≡ checksumOf (payloadPart n s)
   pub end : getD s (n + 4) 0 ≡ 3
 
 -- ---- what is judged good is a good frame, with its count
@@ -31,7 +31,7 @@ pub record GoodFrame (s : List ℕ) (n : ℕ) : Type 0 where
 -- its end
 record Ended (s : List ℕ) (n count : ℕ) : Type 0 where
   there : n + 5 ≤ length s
-  sum : beAt s (n + 2) 2 ≡ checksumOf (payloadOf n s)
+  sum : beAt s (n + 2) 2 ≡ checksumOf (payloadPart n s)
   end : getD s (n + 4) 0 ≡ 3
   counted : count ≡ n + 5
 
@@ -41,7 +41,7 @@ finish-ended s n count e =
     let carried = given-then (unsignedAt 2 s (n + 2)) _ count e in
     let last = given-then (byteAt s (n + 4)) _ count (carried .second) in
     let right = given-unless (eqb (last .value) 3) invalidFrame _ count (last .second) in
-    let sum = given-unless (eqb (carried .value .0) (checksumOf (payloadOf n s))) _ _ count (right .then) in
+    let sum = given-unless (eqb (carried .value .0) (checksumOf (payloadPart n s))) _ _ count (right .then) in
     let number = number-given 2 s (n + 2) (carried .value) (carried .first) in
     let byte = byte-given s (n + 4) (last .value) (last .first) in
     record {

@@ -10,7 +10,7 @@ use Rattle.packer.specs.Numbers.{beAt}
 use Rattle.packer.specs.Reading.{readAt, consumeAt}
 use Rattle.names.specs.Names.{nulWithin}
 use Rattle.fields.specs.Fields.{hasBit, takes, spanOf}
-use Rattle.envelope.specs.Envelope.{byteAt, masked, getValues, fwVersion, fwInfo, fieldsEnd, payloadOf, judgeSumOf, finishOf, judgeOf}
+use Rattle.envelope.specs.Envelope.{byteAt, masked, getValues, fwVersion, fwInfo, fieldsEnd, payloadPart, judgeSumOf, finishOf, judgeOf}
 use Rattle.envelope.proofs.Good.{judge-frame}
 use Rattle.envelope.proofs.Readers.{Reads, reads-nothing}
 use Rattle.envelope.proofs.Replies.{reads-fw-version, reads-values, reads-selective, reads-setup, reads-stats, reads-fw-info}
@@ -72,5 +72,5 @@ pub record Met : Type 0 where
 
 pub met : Met
 unfolding
-    judgeOf byteAt fieldsEnd fwVersion fwInfo getValues masked consumeAt nulWithin spanOf takes hasBit finishOf readAt beAt judgeSumOf payloadOf checksumOf remainder bringDown bitsOf bitsOfByte
+    judgeOf byteAt fieldsEnd fwVersion fwInfo getValues masked consumeAt nulWithin spanOf takes hasBit finishOf readAt beAt judgeSumOf payloadPart checksumOf remainder bringDown bitsOf bitsOfByte
 met = record { fw-version = refl; fw-info = refl; selective = refl; get-values = refl; setup = refl; stats = refl }

@@ -10,14 +10,14 @@ use borrow.Author.Tests.{eq-eqb, ne-eqb}
 use Rattle.refusals.specs.Refusals.{Refusal, given, refused, incompleteData, invalidFrame, checksumMismatch}
 use Rattle.checksum.specs.Xmodem.{checksumOf}
 use Rattle.packer.specs.Reading.{unsignedAt}
-use Rattle.envelope.specs.Envelope.{andThen, unless, fieldsEnd, payloadOf, judgeSumOf, finishOf, judgeOf}
+use Rattle.envelope.specs.Envelope.{andThen, unless, fieldsEnd, payloadPart, judgeSumOf, finishOf, judgeOf}
 use Rattle.envelope.proofs.Places.{byte-got, byte-lacking}
 
 -- ---- the sum
 
 module _ (s : List ℕ) (n expected actual : ℕ) (sum : actual ≡ checksumOf (take (n + 2 - 2) (drop 2 s))) where
-  computed : checksumOf (payloadOf n s) ≡ actual
-  unfolding payloadOf
+  computed : checksumOf (payloadPart n s) ≡ actual
+  unfolding payloadPart
   computed = let all : n + 2 - 2 ≡ n = omega arith in sym (rw all at sum)
 
   pub sum-right : expected ≡ actual → given (n + 5) ≡ judgeSumOf s n expected

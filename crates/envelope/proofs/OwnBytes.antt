@@ -1,13 +1,13 @@
--- A good frame is judged by its own bytes alone, and its payload is read within the payload. Assumes nothing.
+-- A good frame is judged by its own bytes alone. Assumes nothing.
 use mathlib.Core.Path.{_≡_, sym, ap, _∙_}
 use mathlib.Core.List.{List}
 use Prim.Native.Nat.{ℕ, _+_, _-_, _≤_, _<_}
 use native.Mathlib.Omega.{arith}
-use lib.ListN.{length, getD, take, drop, length-drop}
-use lib.Seq.{getD-take, getD-drop, take-take, length-take-le}
+use lib.ListN.{getD, take, drop}
+use lib.Seq.{getD-take, take-take}
 use Rattle.refusals.specs.Refusals.{given}
 use Rattle.checksum.specs.Xmodem.{checksumOf}
-use Rattle.envelope.specs.Envelope.{fieldsEnd, payloadOf, judgeOf}
+use Rattle.envelope.specs.Envelope.{payloadPart, judgeOf}
 use Rattle.envelope.proofs.Places.{own-there, number-own}
 use Rattle.envelope.proofs.Readers.{drop-take}
 use Rattle.envelope.proofs.Replies.{reads-fields}
@@ -15,29 +15,13 @@ use Rattle.envelope.proofs.Good.{GoodFrame, judge-good, good-judged}
 use Rattle.envelope.proofs.Sized.{judge-sized}
 
 -- the payload lies in the frame's own bytes
-pub payload-own : (n end : ℕ) (s : List ℕ) → n + 2 ≤ end → payloadOf n (take end s) ≡ payloadOf n s
-unfolding payloadOf
+pub payload-own : (n end : ℕ) (s : List ℕ) → n + 2 ≤ end → payloadPart n (take end s) ≡ payloadPart n s
+unfolding payloadPart
 payload-own n end s before =
     let inside : n ≤ end - 2 = omega arith in
     rw (drop-take 2 end s, take-take n (end - 2) (drop 2 s) inside)
 
 module _ (s : List ℕ) (n : ℕ) (good : GoodFrame s n) where
-  pub payload-length : length (payloadOf n s) ≡ n
-  unfolding payloadOf
-  payload-length = length-take-le n (drop 2 s) (simp length-drop (omega (arith, good .there)))
-
-  -- the fields are read to the payload's end, with nothing behind it
-  pub payload-fields : fieldsEnd (getD s 2 0) (payloadOf n s) 1 ≡ given n
-  unfolding payloadOf
-  payload-fields = reads-fields (getD s 2 0) .own (drop 2 s) 1 n n (omega arith) (good .fields)
-
-  -- the first of the payload's bytes is the id
-  pub payload-id : getD (payloadOf n s) 0 0 ≡ getD s 2 0
-  unfolding payloadOf
-  payload-id =
-      let onward = reads-fields (getD s 2 0) .onward (drop 2 s) 1 n (good .fields) in
-      getD-take n (drop 2 s) 0 0 (omega arith) ∙ getD-drop 2 s 0 0
-
   good-own : GoodFrame (take (n + 5) s) n
   good-own =
       let there = good .there in

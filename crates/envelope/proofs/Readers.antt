@@ -126,6 +126,7 @@ nul-own (suc room) (byte ∷ left) place next zero before e =
 nul-own (suc room) (byte ∷ left) place next (suc k) before e =
     own-by (eqb byte 0) (place + 1) next _ _ (nul-own room left (place + 1) next k (omega arith)) e
 
+-- the end of the first j bytes is the front of the end
 pub drop-take : (i j : ℕ) (l : List ℕ) → drop i (take j l) ≡ take (j - i) (drop i l)
 drop-take zero j l = let all : j - 0 ≡ j = omega arith in rw all
 drop-take (suc i) zero l = let no : 0 - suc i ≡ 0 = omega arith in rw no

@@ -1,11 +1,11 @@
 -- The count of a good frame: "On success the count is n + 5". Assumes nothing.
-use mathlib.Core.Path.{_≡_, refl}
-use mathlib.Core.List.{List, []}
+use mathlib.Core.Path.{_≡_}
+use mathlib.Core.List.{List}
 use Prim.Native.Nat.{ℕ, _+_, _≤_}
 use native.Mathlib.Omega.{arith}
 use lib.ListN.{length, getD, drop}
-use Rattle.refusals.specs.Refusals.{given, refused, incompleteData}
-use Rattle.envelope.specs.Envelope.{byteAt, judgeOf}
+use Rattle.refusals.specs.Refusals.{given}
+use Rattle.envelope.specs.Envelope.{judgeOf}
 use Rattle.envelope.proofs.Good.{judge-frame}
 use Rattle.envelope.proofs.Replies.{reads-fields}
 
@@ -16,8 +16,3 @@ judge-sized xs c e =
     let onward = reads-fields (getD xs 2 0) .onward (drop 2 xs) 1 (getD xs 1 0) (frame .1 .fields) in
     let there = frame .1 .there in
     (omega arith, omega arith, frame .0)
-
--- of no bytes at all there are not enough
-pub judge-empty : judgeOf [] ≡ refused incompleteData
-unfolding judgeOf byteAt
-judge-empty = refl

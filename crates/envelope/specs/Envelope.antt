@@ -79,12 +79,12 @@ fieldsEnd id part at =
 -- 3. The frame: "A frame is 2, length n, n payload bytes, the checksum of the payload high byte first, then 3: n + 5 bytes."
 
 -- the n payload bytes
-unfoldable pub payloadOf : ℕ → List ℕ → List ℕ
-payloadOf n s = take n (drop 2 s)
+unfoldable pub payloadPart : ℕ → List ℕ → List ℕ
+payloadPart n s = take n (drop 2 s)
 
 -- "checksum (4)": expected = the two bytes carried, actual = the sum computed. "On success the count is n + 5"
 unfoldable pub judgeSumOf : List ℕ → ℕ → ℕ → Answer ℕ
-judgeSumOf s n expected = unless (eqb expected (checksumOf (payloadOf n s))) (checksumMismatch expected (checksumOf (payloadOf n s))) (given (n + 5))
+judgeSumOf s n expected = unless (eqb expected (checksumOf (payloadPart n s))) (checksumMismatch expected (checksumOf (payloadPart n s))) (given (n + 5))
 
 -- "two checksum bytes; end byte (2); checksum (4)"
 unfoldable pub finishOf : List ℕ → ℕ → Answer ℕ

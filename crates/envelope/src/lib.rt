@@ -20,27 +20,29 @@ pub enum Judged {
     Refused(DecodeError),
 }
 
-const FRAME_START_SHORT: u8 = 2;
+// A frame's first byte.
+pub const FRAME_START_SHORT: u8 = 2;
 
+// Its last.
 const FRAME_END: u8 = 3;
 
 // The seven replies' ids, as in `CommandId`.
-const FW_VERSION: u8 = 0;
+pub const FW_VERSION: u8 = 0;
 
-const GET_VALUES: u8 = 4;
+pub const GET_VALUES: u8 = 4;
 
-const GET_VALUES_SELECTIVE: u8 = 50;
+pub const GET_VALUES_SELECTIVE: u8 = 50;
 
-const GET_VALUES_SETUP_SELECTIVE: u8 = 51;
+pub const GET_VALUES_SETUP_SELECTIVE: u8 = 51;
 
-const GET_STATS: u8 = 128;
+pub const GET_STATS: u8 = 128;
 
-const RESET_STATS: u8 = 129;
+pub const RESET_STATS: u8 = 129;
 
-const FW_INFO: u8 = 157;
+pub const FW_INFO: u8 = 157;
 
 // Each of the bits 0 to 21: GetValues has every field.
-const ALL_VALUES: u32 = 4194303;
+pub const ALL_VALUES: u32 = (1 << 22) - 1;
 
 // The place `width` bytes on, where they are there. A refusal so far stays, as after the Rust's `?`.
 fn skip(part: &[u8], so_far: Consumed, width: usize) -> Consumed
@@ -164,7 +166,8 @@ fn finish(buf: &[u8], n: usize) -> Judged
     }
 }
 
-// A byte that starts no frame costs one comparison: it is judged before anything is called.
+// What the bytes from the first on are: a good frame with its count, or the refusal of `decode`. A byte
+// that starts no frame costs one comparison: it is judged before anything is called.
 pub fn judge(buf: &[u8]) -> Judged
     ensures { λ r. ⌜ judged r ≡ judgeOf (now (buf .entry)) ⌝ }
 {

@@ -1,15 +1,15 @@
 -- Asking again and again until nothing is given: it gives and leaves what searching does, and so what the reading does. Assumes nothing.
-use mathlib.Core.Path.{_≡_, refl, ap, _∙_, subst}
-use mathlib.Core.Bool.{false}
+use mathlib.Core.Path.{_≡_, refl, ap, _∙_}
+use mathlib.Core.Bool.{false, cond}
 use mathlib.Core.List.{List, _∷_}
-use Prim.Native.Nat.{ℕ, zero, suc, _+_, _<_}
+use Prim.Native.Nat.{ℕ, zero, suc, _<_}
 use native.Mathlib.Omega.{arith}
-use lib.ListN.{length, drop}
+use lib.ListN.{length}
 use Rattle.reading.specs.Reading.{Judge, Steady}
-use Rattle.reading.specs.Searching.{Search, found, nothing, movedOver, sizeFound, restOf, search, Ends, Searched, afterSearch, searchTurns, searches}
-use Rattle.reading.proofs.Search.{search-not-yet, search-ends, search-account}
-use Rattle.reading.proofs.Searches.{searches-enough, searches-account, searches-rest}
-use Rattle.line.specs.Line.{Line, choose, isFound, replyFound, lineAfter, nextGiven, nextReply, nextLine}
+use Rattle.reading.specs.Searching.{Search, found, nothing, search}
+use Rattle.reading.proofs.Search.{search-not-yet, found-fewer}
+use Rattle.reading.proofs.Searches.{Searched, afterSearch, searchTurns, searches, searches-enough, searches-account, searches-rest}
+use Rattle.line.specs.Line.{Line, isFound, replyFound, lineAfter, nextGiven, nextReply, nextLine}
 use Rattle.line.specs.Playing.{Played, stays, replyThen, askTurns, asks}
 use Rattle.line.proofs.Feeding.{Fits}
 
@@ -21,7 +21,7 @@ module _ {R : Type 0} (judge : Judge R) (empty : R) where
     pub wpos : p .line .wpos ≡ line .wpos
 
   turn-as : (k : ℕ) (line : Line) (s : Search R) → ((l : Line) → AsSearched l (askTurns judge empty k l) (searchTurns judge k (l .unread)))
-      → AsSearched line (choose (isFound s) (replyThen (replyFound empty s) (askTurns judge empty k (lineAfter s line))) (stays (lineAfter s line)))
+      → AsSearched line (cond (isFound s) (replyThen (replyFound empty s) (askTurns judge empty k (lineAfter s line))) (stays (lineAfter s line)))
       (afterSearch s (λ after. searchTurns judge k after))
   turn-as k line (found over n r after) ih =
       let a = ih (lineAfter (found over n r after) line) in
@@ -56,40 +56,32 @@ module _ {R : Type 0} (judge : Judge R) (empty : R) where
       let a = asks-searches steady line in
       ap isFound (search-not-yet judge steady _ (ap judge (a .unread) ∙ searches-rest judge steady (line .unread)))
 
-  -- a call that gives leaves fewer bytes
-  fewer : Steady judge → (l : List ℕ) (over n : ℕ) (r : R) (after : List ℕ) → search judge l ≡ found over n r after → length after < length l
-  fewer steady l over n r after e =
-      let a : over + n + length after ≡ length l = subst (λ (s : Search R). movedOver s + sizeFound s + length (restOf s) ≡ length l) e (search-account judge steady l) in
-      let g = subst (Ends judge l) e (search-ends judge steady l) in
-      let p : 0 < n = steady .sized (drop over l) n r (g .0) .0 in
-      omega arith
-
   turn-enough : Steady judge → (k m : ℕ) (line : Line) (s : Search R) → search judge (line .unread) ≡ s
       → ((l : Line) → length (l .unread) < length (line .unread) → askTurns judge empty k l ≡ askTurns judge empty m l)
-      → choose (isFound s) (replyThen (replyFound empty s) (askTurns judge empty k (lineAfter s line))) (stays (lineAfter s line))
-      ≡ choose (isFound s) (replyThen (replyFound empty s) (askTurns judge empty m (lineAfter s line))) (stays (lineAfter s line))
+      → cond (isFound s) (replyThen (replyFound empty s) (askTurns judge empty k (lineAfter s line))) (stays (lineAfter s line))
+      ≡ cond (isFound s) (replyThen (replyFound empty s) (askTurns judge empty m (lineAfter s line))) (stays (lineAfter s line))
   turn-enough steady k m line (found over n r after) e ih =
-      ap (replyThen r) (ih (lineAfter (found over n r after) line) (fewer steady (line .unread) over n r after e))
+      ap (replyThen r) (ih (lineAfter (found over n r after) line) (found-fewer judge steady (line .unread) over n r after e))
   turn-enough steady k m line (nothing over rest) e ih = refl
 
   -- Any number of calls over that of the unread bytes comes to the same.
-  pub asks-enough : Steady judge → (k m : ℕ) (line : Line) → length (line .unread) < k → length (line .unread) < m → askTurns judge empty k line ≡ askTurns judge empty m line
+  asks-enough : Steady judge → (k m : ℕ) (line : Line) → length (line .unread) < k → length (line .unread) < m → askTurns judge empty k line ≡ askTurns judge empty m line
   unfolding askTurns nextGiven nextReply nextLine
   asks-enough steady zero m line h j = absurd (omega arith)
   asks-enough steady (suc k) zero line h j = absurd (omega arith)
   asks-enough steady (suc k) (suc m) line h j = turn-enough steady k m line _ refl (λ l q. asks-enough steady k m l (omega arith) (omega arith))
 
-  -- So it is one call and, if that gave a reply, the same again: "`next` again and again until it gives nothing".
+  -- So it is one call and, if that gave a reply, the same again.
   pub asks-turn : Steady judge → (line : Line)
-      → asks judge empty line ≡ choose (nextGiven judge line) (replyThen (nextReply judge empty line) (asks judge empty (nextLine judge line))) (stays (nextLine judge line))
+      → asks judge empty line ≡ cond (nextGiven judge line) (replyThen (nextReply judge empty line) (asks judge empty (nextLine judge line))) (stays (nextLine judge line))
   unfolding asks askTurns nextGiven nextReply nextLine
   asks-turn steady line =
       turn-at _ refl
     where
       turn-at : (s : Search R) → search judge (line .unread) ≡ s
-          → choose (isFound s) (replyThen (replyFound empty s) (askTurns judge empty (length (line .unread)) (lineAfter s line))) (stays (lineAfter s line))
-          ≡ choose (isFound s) (replyThen (replyFound empty s) (askTurns judge empty (suc (length (lineAfter s line .unread))) (lineAfter s line))) (stays (lineAfter s line))
+          → cond (isFound s) (replyThen (replyFound empty s) (askTurns judge empty (length (line .unread)) (lineAfter s line))) (stays (lineAfter s line))
+          ≡ cond (isFound s) (replyThen (replyFound empty s) (askTurns judge empty (suc (length (lineAfter s line .unread))) (lineAfter s line))) (stays (lineAfter s line))
       turn-at (found over n r after) e =
-          let h : length after < length (line .unread) = fewer steady (line .unread) over n r after e in
+          let h : length after < length (line .unread) = found-fewer judge steady (line .unread) over n r after e in
           ap (replyThen r) (asks-enough steady (length (line .unread)) (suc (length after)) (lineAfter (found over n r after) line) h (omega arith))
       turn-at (nothing over rest) e = refl

@@ -1,16 +1,16 @@
 -- The line figures: through any calls whatever, fed is handed, passed and held together, while fed is below its top. Assumes nothing.
 use mathlib.Core.Path.{_≡_, refl}
 use mathlib.Core.List.{List, [], _∷_}
-use mathlib.Core.Bool.{Bool, true, false}
+use mathlib.Core.Bool.{Bool, true, false, cond}
 use Prim.Native.Nat.{ℕ, _+_, _-_, _<_, _≤_}
 use native.Mathlib.Omega.{arith}
 use lib.Dec.{ltb, eqb}
 use lib.ListN.{length, take, length-append}
 use lib.Seq.{length-take-le}
 use Rattle.reading.specs.Reading.{Judge, Steady}
-use Rattle.reading.specs.Searching.{Search, found, nothing, movedOver, sizeFound, restOf, search}
-use Rattle.reading.proofs.Search.{search-account}
-use Rattle.line.specs.Line.{Line, fresh, choose, top, atFront, moved, emptied, cleared, fitting, copied, feedCount, feedLine, lineAfter, nextLine}
+use Rattle.reading.specs.Searching.{Search, found, nothing, sizeFound, search}
+use Rattle.reading.proofs.Search.{movedOver, restOf, search-account}
+use Rattle.line.specs.Line.{Line, fresh, top, atFront, moved, emptied, cleared, fitting, copied, feedCount, feedLine, lineAfter, nextLine}
 use Rattle.line.specs.Calling.{Call, feeds, asksNext, called, afterCalls, Balanced}
 use Rattle.line.proofs.Figures.{held, raised-below, raised-exact}
 
@@ -25,7 +25,7 @@ moved-keeps : (n : ℕ) (line : Line) → Keeps line (moved n line)
 unfolding moved
 moved-keeps n line = by (ltb (512 - line .wpos) n)
   where
-    by : (b : Bool) → Keeps line (choose b (atFront line) line)
+    by : (b : Bool) → Keeps line (cond b (atFront line) line)
     by true = record { same-fed = refl; balanced = λ t h. h }
     by false = record { same-fed = refl; balanced = λ t h. h }
 
@@ -33,14 +33,14 @@ cleared-keeps : (line : Line) → Keeps line (cleared line)
 unfolding cleared
 cleared-keeps line = by (eqb (line .wpos) 512)
   where
-    by : (b : Bool) → Keeps line (choose b (emptied line) line)
+    by : (b : Bool) → Keeps line (cond b (emptied line) line)
     by true = record { same-fed = refl; balanced = λ t h. omega (arith, raised-exact (line .passed) (length (line .unread)) (omega arith)) }
     by false = record { same-fed = refl; balanced = λ t h. h }
 
 -- what it needs of any call: a fed below the top was so before
-pub record Balances (line after : Line) : Type 0 where
-  pub rises : after .fed < top → line .fed < top
-  pub balanced : after .fed < top → Balanced line → Balanced after
+record Balances (line after : Line) : Type 0 where
+  rises : after .fed < top → line .fed < top
+  balanced : after .fed < top → Balanced line → Balanced after
 
 copied-balances : (piece : List ℕ) (n : ℕ) (line : Line) → n ≤ length piece → Balances line (copied piece n line)
 unfolding copied
@@ -50,7 +50,7 @@ copied-balances piece n line h =
       balanced = λ t b. omega (arith, raised-below (line .fed) n t, length-append (line .unread) (take n piece), length-take-le n piece h);
     }
 
-pub feed-balances : (line : Line) (piece : List ℕ) → Balances line (feedLine line piece)
+feed-balances : (line : Line) (piece : List ℕ) → Balances line (feedLine line piece)
 unfolding feedLine feedCount fitting
 feed-balances line piece =
     let first = moved (length piece) line in
@@ -74,7 +74,7 @@ module _ {R : Type 0} (judge : Judge R) (steady : Steady judge) where
   search-balances line (nothing over rest) a =
       record { rises = λ t. t; balanced = λ t b. omega (arith, raised-exact (line .passed) over (omega arith)) }
 
-  pub next-balances : (line : Line) → Balances line (nextLine judge line)
+  next-balances : (line : Line) → Balances line (nextLine judge line)
   unfolding nextLine
   next-balances line = search-balances line (search judge (line .unread)) (search-account judge steady (line .unread))
 

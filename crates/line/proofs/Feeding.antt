@@ -1,7 +1,7 @@
 -- What `feed` does: by cases, and to a line that has room. Assumes nothing.
 use mathlib.Core.Path.{_≡_, refl, ap, _∙_}
 use mathlib.Core.List.{List, [], _++_}
-use mathlib.Core.Bool.{Bool, true, false}
+use mathlib.Core.Bool.{Bool, true, false, cond}
 use Prim.Native.Nat.{ℕ, _+_, _-_, _<_, _≤_}
 use native.Mathlib.Omega.{arith}
 use native.Mathlib.Nat.{le-refl, zero-add}
@@ -9,7 +9,7 @@ use borrow.Author.Tests.{ltb-false, lt-ltb, le-ltb, eq-eqb, ne-eqb}
 use lib.Dec.{ltb}
 use lib.ListN.{length, take, length-append}
 use lib.Seq.{length-take-le, take-length}
-use Rattle.line.specs.Line.{Line, choose, atMost, atFront, moved, emptied, cleared, fitting, copied, feedCount, feedLine}
+use Rattle.line.specs.Line.{Line, atMost, atFront, moved, emptied, cleared, fitting, copied, feedCount, feedLine}
 use Rattle.line.proofs.Figures.{held, held-under}
 
 -- Two lines with the same fields.
@@ -48,7 +48,7 @@ record Free (line ready : Line) : Type 0 where
   room : ready .wpos < 512
 
 free-by : (line : Line) (n : ℕ) (b : Bool) → ltb (512 - line .wpos) n ≡ b → 0 < n → length (line .unread) < 512 → Fits line
-    → Free line (cleared (choose b (atFront line) line))
+    → Free line (cleared (cond b (atFront line) line))
 free-by line n true e some short fits =
     let kept = cleared-not (atFront line) (λ q. omega arith) in
     rw kept (record { same = refl; low = le-refl _; room = short })
@@ -100,7 +100,7 @@ unfolding feedLine copied moved
 full-clears line piece all end = ap (λ (l : List ℕ). l ++ take (feedCount line piece) piece) (by (ltb (512 - line .wpos) (length piece)))
   where
     by : (b : Bool)
-        → cleared (choose b (atFront line) line) .unread ≡ []
+        → cleared (cond b (atFront line) line) .unread ≡ []
     by true = ap (λ (l : Line). l .unread) (cleared-when _ all)
     by false = ap (λ (l : Line). l .unread) (cleared-when _ end)
 

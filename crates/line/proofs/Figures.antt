@@ -1,21 +1,21 @@
--- What a number held at its most is. Assumes nothing.
+-- A number held at a top value: `atMost`, and the figures raised by it. Assumes nothing.
 use mathlib.Core.Path.{_≡_, refl}
-use mathlib.Core.Bool.{Bool, true, false}
+use mathlib.Core.Bool.{Bool, true, false, cond}
 use Prim.Native.Nat.{ℕ, _+_, _<_, _≤_}
 use native.Mathlib.Omega.{arith}
 use native.Mathlib.Nat.{le-refl}
 use borrow.Author.Tests.{ltb-true, ltb-false, lt-ltb, le-ltb}
 use lib.Dec.{ltb}
-use Rattle.line.specs.Line.{choose, atMost, top, raised}
+use Rattle.line.specs.Line.{atMost, top, raised}
 
--- held, or as it is
+-- r is n, or `most` where n is above it
 pub record Held (most n r : ℕ) : Type 0 where
   pub low : r ≤ most
   pub high : r ≤ n
   pub some : 0 < most → 0 < n → 0 < r
   pub below : r < most → r ≡ n
 
-held-by : (most n : ℕ) (b : Bool) → ltb most n ≡ b → Held most n (choose b most n)
+held-by : (most n : ℕ) (b : Bool) → ltb most n ≡ b → Held most n (cond b most n)
 held-by most n true e = let h : most < n = ltb-true _ _ e in record { low = le-refl _; high = omega arith; some = λ p q. p; below = λ p. omega arith }
 held-by most n false e = let h : n ≤ most = ltb-false _ _ e in record { low = h; high = le-refl _; some = λ p q. q; below = λ p. refl }
 

@@ -1,13 +1,12 @@
 -- Pieces played one after the other come to what one reading of the uncut stream comes to. Assumes nothing.
 use mathlib.Core.Path.{_≡_, refl, sym, ap, _∙_, subst}
 use mathlib.Core.List.{List, [], _∷_, _++_, append-assoc, append-nil}
-use Prim.Native.Nat.{ℕ, zero, suc, _+_, _-_, _<_, _≤_}
+use Prim.Native.Nat.{ℕ, zero, suc, _<_, _≤_}
 use native.Mathlib.Omega.{arith}
 use lib.ListN.{length, take, drop, length-drop, take-append-drop}
 use Rattle.reading.specs.Reading.{notYet, Judge, Steady, Bounded, joined}
-use Rattle.reading.specs.Searching.{Searched, afterSearch, searches, andThen}
 use Rattle.reading.proofs.Search.{search-not-yet}
-use Rattle.reading.proofs.Searches.{searches-turn, searches-rest, searches-joined}
+use Rattle.reading.proofs.Searches.{Searched, afterSearch, andThen, searches, searches-turn, searches-rest, searches-joined}
 use Rattle.line.specs.Line.{Line, fresh, feedCount, feedLine}
 use Rattle.line.specs.Playing.{Offered, Nonempty, offerAgain, asks, offerTurns, offers, played}
 use Rattle.line.proofs.Feeding.{Fits, Taken, taken}

@@ -1,6 +1,6 @@
 -- What a decoder holds, and what one `feed` and one `next` do to it. Document 01, "The stream". Over any judge of bytes; the document's
 -- decoder has 512 bytes. Assumes nothing.
-use mathlib.Core.Bool.{Bool, true, false}
+use mathlib.Core.Bool.{Bool, true, false, cond}
 use mathlib.Core.List.{List, [], _++_}
 use Prim.Native.Nat.{ℕ, _+_, _-_}
 use lib.Dec.{ltb, eqb}
@@ -20,12 +20,9 @@ pub record Line : Type 0 where
 abbrev pub fresh : Line
 fresh = record { unread = []; wpos = 0; fed = 0; handed = 0; passed = 0 }
 
-abbrev pub choose : {A : Type 0} → Bool → A → A → A
-choose true a b = a
-choose false a b = b
-
+-- n, or `most` where n is above it
 abbrev pub atMost : ℕ → ℕ → ℕ
-atMost most n = choose (ltb most n) most n
+atMost most n = cond (ltb most n) most n
 
 -- "64-bit, holding at the top value"
 abbrev pub top : ℕ
@@ -43,7 +40,7 @@ atFront line = record { unread = line .unread; wpos = length (line .unread); fed
 
 -- "if the piece is longer than the free tail": n is the length of the piece
 unfoldable pub moved : ℕ → Line → Line
-moved n line = choose (ltb (512 - line .wpos) n) (atFront line) line
+moved n line = cond (ltb (512 - line .wpos) n) (atFront line) line
 
 -- "everything unread is cleared"; passed: "the unread bytes at each clearing"
 abbrev pub emptied : Line → Line
@@ -51,7 +48,7 @@ emptied line = record { unread = []; wpos = 0; fed = line .fed; handed = line .h
 
 -- "If the buffer is then filled to its end"
 unfoldable pub cleared : Line → Line
-cleared line = choose (eqb (line .wpos) 512) (emptied line) line
+cleared line = cond (eqb (line .wpos) 512) (emptied line) line
 
 -- "as much as fits"
 unfoldable pub fitting : ℕ → Line → ℕ
@@ -76,7 +73,7 @@ module _ {R : Type 0} where
   isFound (found over n r after) = true
   isFound (nothing over rest) = false
 
-  -- "When it gives nothing, its reply is the empty one"
+  -- "all of them on a refusal or when there is no reply, hold zeros": where nothing is found, the empty reply
   abbrev pub replyFound : R → Search R → R
   replyFound empty (found over n r after) = r
   replyFound empty (nothing over rest) = empty

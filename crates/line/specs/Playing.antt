@@ -1,12 +1,13 @@
 -- Pieces played into a decoder: each is offered, `next` is asked until it gives nothing, and what was not taken is offered again. Only `feed`
 -- and `next` are called, as specs/Line.antt defines them, and only what they hand back is gone by. Over any judge of bytes. Assumes nothing.
+use mathlib.Core.Bool.{cond}
 use mathlib.Core.List.{List, [], _∷_, _++_}
 use mathlib.Core.Path.{_≡_}
 use Prim.Native.Nat.{ℕ, zero, suc, _<_}
 use lib.ListN.{length, drop}
 use Rattle.reading.specs.Reading.{Judge, Given, repliesOf}
 use Rattle.reading.specs.Lateness.{GivenAt}
-use Rattle.line.specs.Line.{Line, choose, feedCount, feedLine, nextGiven, nextReply, nextLine}
+use Rattle.line.specs.Line.{Line, feedCount, feedLine, nextGiven, nextReply, nextLine}
 
 -- the replies given, in order, and the line then
 pub record Played (R : Type 0) : Type 0 where
@@ -51,7 +52,7 @@ module _ {R : Type 0} where
     unfoldable pub askTurns : ℕ → Line → Played R
     askTurns zero line = stays line
     askTurns (suc k) line =
-        choose (nextGiven judge line)
+        cond (nextGiven judge line)
         (replyThen (nextReply judge empty line) (askTurns k (nextLine judge line)))
         (stays (nextLine judge line))
 

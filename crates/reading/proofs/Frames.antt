@@ -6,9 +6,14 @@ use native.Mathlib.Omega.{arith}
 use native.Mathlib.Nat.{le-refl, add-assoc, zero-add}
 use lib.ListN.{drop}
 use lib.Seq.{drop-drop}
-use Rattle.reading.specs.Reading.{Judge, Given, Steady, readingFrom, reading, repliesOf, sizesOf, Stand}
+use Rattle.reading.specs.Reading.{takes, Judge, Given, Steady, readingFrom, reading, repliesOf}
 use Rattle.reading.specs.Lateness.{Each, GivenAt}
 use Rattle.reading.proofs.Turns.{by-reading, idle, at-good-frame, at-noise}
+
+-- the bytes of the frames given, together
+abbrev pub sizesOf : {R : Type 0} → List (Given R) → ℕ
+sizesOf [] = 0
+sizesOf (g ∷ gs) = g .size + sizesOf gs
 
 -- The replies of what is given first, and then of what is given behind it; and so the sizes.
 pub replies-append : {R : Type 0} (a b : List (Given R)) → repliesOf (a ++ b) ≡ repliesOf a ++ repliesOf b
@@ -26,6 +31,12 @@ each-front P (g ∷ a) b h = (h .0, each-front P a b (h .1))
 -- The reply of a frame given is among the replies, behind those of the frames before it.
 pub reply-given : {R : Type 0} {p n : ℕ} {r : R} {given : List (Given R)} (a : GivenAt p n r given) → repliesOf given ≡ repliesOf (a .before) ++ r ∷ repliesOf (a .after)
 reply-given a = ap repliesOf (a .exactly) ∙ replies-append (a .before) _
+
+module _ {R : Type 0} (judge : Judge R) where
+  -- frames that stand in the stream: each is good at its place, and starts at `from` or where the one before it ends, or later
+  abbrev pub Stand : List ℕ → ℕ → List (Given R) → Type 0
+  Stand stream from [] = Unit
+  Stand stream from (g ∷ gs) = (from ≤ g .place) × (judge (drop (g .place) stream) ≡ takes (g .size) (g .reply)) × Stand stream (g .place + g .size) gs
 
 module _ {R : Type 0} (judge : Judge R) (steady : Steady judge) where
   stand-before : (stream : List ℕ) (from : ℕ) (given : List (Given R)) → Stand judge stream (from + 1) given → Stand judge stream from given

@@ -5,9 +5,14 @@ use Prim.Native.Nat.{ℕ, _+_, _-_, _≤_}
 use native.Mathlib.Omega.{arith}
 use lib.ListN.{length, drop, length-drop}
 use lib.Seq.{drop-append-le}
-use Rattle.reading.specs.Reading.{takes, notYet, movesOn, Judge, Given, Reading, Steady, gives, behind, readingFrom, reading, unreadPlace, goesOn}
+use Rattle.reading.specs.Reading.{takes, notYet, movesOn, Judge, Given, Reading, Steady, gives, behind, readingFrom, reading, unreadPlace}
 use Rattle.reading.proofs.Turns.{by-reading, idle, at-good-frame, at-noise, good-told, noise-told, noise-some}
 use Rattle.reading.proofs.Rest.{rest-length}
+
+module _ {R : Type 0} (judge : Judge R) where
+  -- the reading o of a list l that starts at `place` goes on when more bytes come: they are appended to what o left
+  abbrev pub goesOn : ℕ → List ℕ → Reading R → List ℕ → Reading R
+  goesOn place l o more = behind (o .given) (readingFrom judge (unreadPlace place l o) (o .rest ++ more))
 
 module _ {R : Type 0} (judge : Judge R) (steady : Steady judge) where
   -- A good frame stays one when bytes are appended,
@@ -15,7 +20,7 @@ module _ {R : Type 0} (judge : Judge R) (steady : Steady judge) where
   good-stands xs ys n r e = steady .prefix xs ys (good-told judge steady xs n r e) ∙ e
 
   -- and so does a byte that is moved over.
-  pub noise-stands : (xs ys : List ℕ) → judge xs ≡ movesOn → judge (xs ++ ys) ≡ movesOn
+  noise-stands : (xs ys : List ℕ) → judge xs ≡ movesOn → judge (xs ++ ys) ≡ movesOn
   noise-stands xs ys e = steady .prefix xs ys (noise-told judge steady xs e) ∙ e
 
   -- what reads from n bytes further on goes on at the same place

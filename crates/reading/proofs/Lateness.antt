@@ -14,7 +14,7 @@ use Rattle.reading.proofs.Joined.{given-front, good-stands}
 
 module _ {R : Type 0} (judge : Judge R) (steady : Steady judge) where
   -- With a bound, the bytes before p are settled as soon as bound - 1 bytes counted from the one at p have been taken in.
-  pub late : (bound : ℕ) → Bounded judge bound → (xs : List ℕ) (p : ℕ) → TakenIn bound p xs → Settled judge xs p
+  late : (bound : ℕ) → Bounded judge bound → (xs : List ℕ) (p : ℕ) → TakenIn bound p xs → Settled judge xs p
   late bound bounded xs p h q j = bounded .told (drop q xs) (rw (length-drop q xs) (omega arith))
 
   -- what is settled stays so from m bytes further on
@@ -62,18 +62,18 @@ module _ {R : Type 0} (judge : Judge R) (steady : Steady judge) where
         (λ place l e ih. rw (at-noise judge steady place l e) (past-noise place l _ e ih))
 
   -- A good frame is given exactly where it stands, if every byte before it is settled and no earlier frame of the reading reaches over its first byte.
-  pub given-where-settled : (xs : List ℕ) (p n : ℕ) (r : R) → judge (drop p xs) ≡ takes n r → Settled judge xs p
+  given-where-settled : (xs : List ℕ) (p n : ℕ) (r : R) → judge (drop p xs) ≡ takes n r → Settled judge xs p
       → NoneOver p (reading judge xs .given) → GivenAt p n r (reading judge xs .given)
   given-where-settled xs p n r good s h = claim p n r 0 xs p (zero-add p) good s h
 
   -- What was given stays given when bytes are appended.
-  pub given-stays : (xs ys : List ℕ) (p n : ℕ) (r : R) → GivenAt p n r (reading judge xs .given) → GivenAt p n r (reading judge (xs ++ ys) .given)
+  unfoldable pub given-stays : (xs ys : List ℕ) (p n : ℕ) (r : R) → GivenAt p n r (reading judge xs .given) → GivenAt p n r (reading judge (xs ++ ys) .given)
   given-stays xs ys p n r a =
       let f = given-front judge steady xs ys in
       record { before = a .before; after = a .after ++ f .0; exactly = f .1 ∙ ap (λ (x : List (Given R)). x ++ f .0) (a .exactly) ∙ append-assoc (a .before) _ (f .0); clear = a .clear }
 
   -- A good frame of the uncut stream xs ++ ys is one for xs as soon as its own last byte has been taken in.
-  pub good-in-front : (xs ys : List ℕ) (p n : ℕ) (r : R) → judge (take n (drop p (xs ++ ys))) ≡ takes n r → p + n ≤ length xs → judge (drop p xs) ≡ takes n r
+  good-in-front : (xs ys : List ℕ) (p n : ℕ) (r : R) → judge (take n (drop p (xs ++ ys))) ≡ takes n r → p + n ≤ length xs → judge (drop p xs) ≡ takes n r
   good-in-front xs ys p n r good k =
       let room : n ≤ length (drop p xs) = rw (length-drop p xs) (omega arith) in
       let same : take n (drop p (xs ++ ys)) ≡ take n (drop p xs) = ap (take n) (drop-append-le p xs ys (omega arith)) ∙ take-append-le n (drop p xs) ys room in
@@ -82,7 +82,7 @@ module _ {R : Type 0} (judge : Judge R) (steady : Steady judge) where
 
   -- A good frame of n bytes stands at p of the uncut stream xs ++ ys, and no earlier frame of the reading of that stream reaches over its first
   -- byte. Once its own last byte has been taken in with xs, and every byte before it is settled, the reading of xs gives it.
-  pub given-once-settled : (xs ys : List ℕ) (p n : ℕ) (r : R) → judge (take n (drop p (xs ++ ys))) ≡ takes n r → NoneOver p (reading judge (xs ++ ys) .given)
+  given-once-settled : (xs ys : List ℕ) (p n : ℕ) (r : R) → judge (take n (drop p (xs ++ ys))) ≡ takes n r → NoneOver p (reading judge (xs ++ ys) .given)
       → p + n ≤ length xs → Settled judge xs p → GivenAt p n r (reading judge xs .given)
   given-once-settled xs ys p n r good h k s =
       let f = given-front judge steady xs ys in

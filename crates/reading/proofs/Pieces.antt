@@ -9,7 +9,7 @@ use Rattle.reading.proofs.Joined.{reading-joined}
 
 module _ {R : Type 0} (judge : Judge R) (steady : Steady judge) where
   -- Pieces that come behind bytes left unread are read as one stream.
-  pub pieces-from : (place : ℕ) (left : List ℕ) (pieces : List (List ℕ)) → judge left ≡ notYet → piecesFrom judge place left pieces ≡ readingFrom judge place (left ++ joined pieces)
+  pieces-from : (place : ℕ) (left : List ℕ) (pieces : List (List ℕ)) → judge left ≡ notYet → piecesFrom judge place left pieces ≡ readingFrom judge place (left ++ joined pieces)
   unfolding piecesFrom
   pieces-from place left [] e = sym (ap (readingFrom judge place) (append-nil left) ∙ idle judge steady place left e)
   pieces-from place left (p ∷ ps) e =

@@ -1,13 +1,13 @@
 -- One search: a turn of it, where it ends, the bytes it accounts for, and the reading that goes on behind it. Assumes nothing.
 use mathlib.Core.Path.{_≡_, refl, sym, ap, _∙_, subst}
 use mathlib.Core.List.{List, [], _∷_}
-use Prim.Native.Nat.{ℕ, suc, _+_}
+use Prim.Native.Nat.{ℕ, suc, _+_, _<_}
 use native.Mathlib.Omega.{arith}
 use native.Mathlib.Nat.{add-zero, add-assoc, zero-add}
 use lib.ListN.{length, drop, length-drop}
 use lib.Seq.{drop-drop}
-use Rattle.reading.specs.Reading.{Verdict, takes, notYet, movesOn, Judge, Steady, gives, readingFrom}
-use Rattle.reading.specs.Searching.{Search, found, nothing, movedOver, sizeFound, restOf, further, searchAt, search, Ends, readOn}
+use Rattle.reading.specs.Reading.{Verdict, takes, notYet, movesOn, Judge, Reading, Steady, stops, gives, readingFrom}
+use Rattle.reading.specs.Searching.{Search, found, nothing, sizeFound, further, searchAt, search}
 use Rattle.reading.proofs.Turns.{by-reading, idle, at-good-frame, at-noise, noise-some}
 
 -- A search begun b bytes earlier, and that a bytes earlier.
@@ -15,13 +15,35 @@ pub further-further : {R : Type 0} (a b : ℕ) (s : Search R) → further a (fur
 further-further a b (found over n r after) = ap (λ (k : ℕ). found k n r after) (sym (add-assoc a b over))
 further-further a b (nothing over rest) = ap (λ (k : ℕ). nothing k rest) (sym (add-assoc a b over))
 
+module _ {R : Type 0} where
+  -- the bytes that a search moved over, found a frame or not
+  abbrev pub movedOver : Search R → ℕ
+  movedOver (found over n r after) = over
+  movedOver (nothing over rest) = over
+
+  -- what it leaves unread
+  abbrev pub restOf : Search R → List ℕ
+  restOf (found over n r after) = after
+  restOf (nothing over rest) = rest
+
+  module _ (judge : Judge R) where
+    -- what a search of l may come to: a good frame where it ended, or "not yet" there; and the bytes behind are left
+    abbrev Ends : List ℕ → Search R → Type 0
+    Ends l (found over n r after) = (judge (drop over l) ≡ takes n r) × (after ≡ drop (over + n) l)
+    Ends l (nothing over rest) = (judge (drop over l) ≡ notYet) × (rest ≡ drop over l)
+
+    -- the frame that a search from `place` on found is given, and then what the reading of the bytes after it gives
+    abbrev pub readOn : ℕ → Search R → Reading R
+    readOn place (found over n r after) = gives (record { place = place + over; size = n; reply = r }) (readingFrom judge (place + over + n) after)
+    readOn place (nothing over rest) = stops rest
+
 accounts-further : {R : Type 0} (s : Search R) → movedOver (further 1 s) + sizeFound (further 1 s) + length (restOf (further 1 s)) ≡ suc (movedOver s + sizeFound s + length (restOf s))
 accounts-further (found over n r after) = omega arith
 accounts-further (nothing over rest) = omega arith
 
 module _ {R : Type 0} (judge : Judge R) (steady : Steady judge) where
   -- One turn of a search.
-  pub search-turn : (l : List ℕ) (v : Verdict R) → judge l ≡ v → search judge l ≡ searchAt v l (search judge (drop 1 l))
+  search-turn : (l : List ℕ) (v : Verdict R) → judge l ≡ v → search judge l ≡ searchAt v l (search judge (drop 1 l))
   unfolding search
   search-turn [] v e = ap (λ (w : Verdict R). searchAt w [] (search judge [])) (sym (steady .empty) ∙ e)
   search-turn (x ∷ xs) v e = ap (λ (w : Verdict R). searchAt w (x ∷ xs) (search judge xs)) e
@@ -51,13 +73,27 @@ module _ {R : Type 0} (judge : Judge R) (steady : Steady judge) where
   ends-further l (nothing over rest) h = (ap judge (sym (drop-drop over 1 l)) ∙ h .0, h .1 ∙ drop-drop over 1 l)
 
   -- A search ends at a good frame, or where the judge says "not yet", and leaves the bytes behind.
-  pub search-ends : (l : List ℕ) → Ends judge l (search judge l)
+  search-ends : (l : List ℕ) → Ends judge l (search judge l)
   search-ends =
       by-reading judge steady (λ place l. Ends judge l (search judge l))
       (λ place l e. subst (Ends judge l) (sym (search-not-yet l e)) (e, refl))
       (λ place l n r e ih. subst (Ends judge l) (sym (search-good l n r e)) (e, ap (λ (k : ℕ). drop k l) (sym (zero-add n))))
       (λ place l e ih. subst (Ends judge l) (sym (search-noise l e)) (ends-further l (search judge (drop 1 l)) ih))
       0
+
+  -- A search that found a frame: it is good where it stands, and it, the bytes moved over and those after it are all the bytes.
+  pub found-account : (l : List ℕ) (over n : ℕ) (r : R) (after : List ℕ) → search judge l ≡ found over n r after → (judge (drop over l) ≡ takes n r) × (over + n + length after ≡ length l)
+  found-account l over n r after e = (rw e at (search-ends l) .0, rw e at (search-account l))
+
+  -- So fewer bytes are left.
+  pub found-fewer : (l : List ℕ) (over n : ℕ) (r : R) (after : List ℕ) → search judge l ≡ found over n r after → length after < length l
+  found-fewer l over n r after e =
+      let a = found-account l over n r after e in
+      omega (arith, a .1, steady .sized (drop over l) n r (a .0) .0)
+
+  -- A search that found nothing: the bytes moved over and those left are all the bytes.
+  pub nothing-account : (l : List ℕ) (over : ℕ) (rest : List ℕ) → search judge l ≡ nothing over rest → over + length rest ≡ length l
+  nothing-account l over rest e = let a = rw e at (search-account l) in omega arith
 
   read-on-further : (place : ℕ) (s : Search R) → readOn judge (place + 1) s ≡ readOn judge place (further 1 s)
   read-on-further place (found over n r after) =

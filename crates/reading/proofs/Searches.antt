@@ -1,17 +1,54 @@
 -- Searching again and again until nothing is found: it gives and leaves what the reading does. Assumes nothing.
 use mathlib.Core.Path.{_≡_, refl, sym, ap, _∙_, subst}
 use mathlib.Core.List.{List, [], _∷_, _++_}
-use Prim.Native.Nat.{ℕ, zero, suc, _+_, _<_, _≤_}
+use Prim.Native.Nat.{ℕ, zero, suc, _+_, _≤_}
 use native.Mathlib.Omega.{arith}
 use native.Mathlib.Nat.{le-refl, not-suc-le-zero}
-use lib.ListN.{length, drop, length-append}
-use Rattle.reading.specs.Reading.{notYet, Judge, Steady, Bounded, readingFrom, sizesOf, unreadPlace}
-use Rattle.reading.specs.Searching.{Search, found, nothing, movedOver, sizeFound, restOf, search, Ends, readOn, Searched, afterSearch, searchTurns, searches, andThen, Agrees}
+use lib.ListN.{length, length-append}
+use Rattle.reading.specs.Reading.{notYet, Judge, Reading, Steady, readingFrom, repliesOf, unreadPlace}
+use Rattle.reading.specs.Searching.{Search, found, nothing, sizeFound, search}
 use Rattle.reading.proofs.Turns.{idle}
-use Rattle.reading.proofs.Rest.{rest-not-yet, rest-short}
-use Rattle.reading.proofs.Frames.{replies-append, sizes-append}
+use Rattle.reading.proofs.Rest.{rest-not-yet}
+use Rattle.reading.proofs.Frames.{sizesOf, replies-append, sizes-append}
 use Rattle.reading.proofs.Joined.{reading-joined}
-use Rattle.reading.proofs.Search.{search-ends, search-account, search-reading}
+use Rattle.reading.proofs.Search.{movedOver, restOf, readOn, search-account, found-fewer, search-reading}
+
+-- what searching again and again comes to, until nothing is found
+pub record Searched (R : Type 0) : Type 0 where
+  pub replies : List R
+  -- the bytes of the frames found
+  pub handed : ℕ
+  -- the bytes moved over
+  pub passed : ℕ
+  pub rest : List ℕ
+
+-- it came to what the reading o gives and leaves
+pub record Agrees {R : Type 0} (s : Searched R) (o : Reading R) : Type 0 where
+  pub replies : s .replies ≡ repliesOf (o .given)
+  pub handed : s .handed ≡ sizesOf (o .given)
+  pub rest : s .rest ≡ o .rest
+
+module _ {R : Type 0} where
+  -- a frame found, and then what `again` makes of the bytes after it; or nothing
+  abbrev pub afterSearch : Search R → (List ℕ → Searched R) → Searched R
+  afterSearch (found over n r after) again =
+      let s = again after in
+      record { replies = r ∷ s .replies; handed = n + s .handed; passed = over + s .passed; rest = s .rest }
+  afterSearch (nothing over rest) again = record { replies = []; handed = 0; passed = over; rest = rest }
+
+  -- what one searching came to, and then another
+  abbrev pub andThen : Searched R → Searched R → Searched R
+  andThen s t = record { replies = s .replies ++ t .replies; handed = s .handed + t .handed; passed = s .passed + t .passed; rest = t .rest }
+
+  module _ (judge : Judge R) where
+    -- at most so many searches. One that finds a frame takes a byte or more, so the length of the list is enough of them
+    unfoldable pub searchTurns : ℕ → List ℕ → Searched R
+    searchTurns zero l = record { replies = []; handed = 0; passed = 0; rest = l }
+    searchTurns (suc k) l = afterSearch (search judge l) (λ after. searchTurns k after)
+
+    -- search until nothing is found
+    unfoldable pub searches : List ℕ → Searched R
+    searches l = searchTurns (length l) l
 
 -- what accounts for as many bytes, and agrees otherwise, has passed as many
 same-searched : {R : Type 0} (s t : Searched R) → s .replies ≡ t .replies → s .handed ≡ t .handed → s .rest ≡ t .rest
@@ -22,24 +59,16 @@ same-searched s t p h e a =
     λ i. record { replies = p i; handed = h i; passed = q i; rest = e i }
 
 module _ {R : Type 0} (judge : Judge R) (steady : Steady judge) where
-  -- a search that finds a frame leaves fewer bytes
-  fewer : (k : ℕ) (l : List ℕ) (over n : ℕ) (r : R) (after : List ℕ) → search judge l ≡ found over n r after → length l ≤ suc k → length after ≤ k
-  fewer k l over n r after e h =
-      let a : over + n + length after ≡ length l = subst (λ (s : Search R). movedOver s + sizeFound s + length (restOf s) ≡ length l) e (search-account judge steady l) in
-      let g = subst (Ends judge l) e (search-ends judge steady l) in
-      let p : 0 < n = steady .sized (drop over l) n r (g .0) .0 in
-      omega arith
-
   agrees-at : (k place : ℕ) (l : List ℕ) (s : Search R) → search judge l ≡ s → length l ≤ suc k
       → ((at : ℕ) (m : List ℕ) → length m ≤ k → Agrees (searchTurns judge k m) (readingFrom judge at m))
       → Agrees (afterSearch s (λ after. searchTurns judge k after)) (readOn judge place s)
   agrees-at k place l (found over n r after) e h ih =
-      let a = ih (place + over + n) after (fewer k l over n r after e h) in
+      let a = ih (place + over + n) after (omega (arith, found-fewer judge steady l over n r after e)) in
       record { replies = ap (λ (q : List R). r ∷ q) (a .replies); handed = ap (λ (m : ℕ). n + m) (a .handed); rest = a .rest }
   agrees-at k place l (nothing over rest) e h ih = record { replies = refl; handed = refl; rest = refl }
 
   -- As many searches as the list is long, or more, agree with the reading.
-  pub agrees-in : (k place : ℕ) (l : List ℕ) → length l ≤ k → Agrees (searchTurns judge k l) (readingFrom judge place l)
+  agrees-in : (k place : ℕ) (l : List ℕ) → length l ≤ k → Agrees (searchTurns judge k l) (readingFrom judge place l)
   unfolding searchTurns
   agrees-in zero place [] h = subst (Agrees (searchTurns judge zero [])) (sym (idle judge steady place [] (steady .empty))) (record { replies = refl; handed = refl; rest = refl })
   agrees-in zero place (x ∷ xs) h = absurd (not-suc-le-zero h)
@@ -58,7 +87,7 @@ module _ {R : Type 0} (judge : Judge R) (steady : Steady judge) where
   account-at k l (nothing over rest) a ih = omega arith
 
   -- The bytes of the frames found, those moved over and those left are all the bytes there were, however often is searched.
-  pub turns-account : (k : ℕ) (l : List ℕ) → searchTurns judge k l .handed + searchTurns judge k l .passed + length (searchTurns judge k l .rest) ≡ length l
+  turns-account : (k : ℕ) (l : List ℕ) → searchTurns judge k l .handed + searchTurns judge k l .passed + length (searchTurns judge k l .rest) ≡ length l
   unfolding searchTurns
   turns-account zero l = omega arith
   turns-account (suc k) l = account-at k l (search judge l) (search-account judge steady l) (λ m. turns-account k m)
@@ -66,12 +95,6 @@ module _ {R : Type 0} (judge : Judge R) (steady : Steady judge) where
   pub searches-account : (l : List ℕ) → searches judge l .handed + searches judge l .passed + length (searches judge l .rest) ≡ length l
   unfolding searches
   searches-account l = turns-account (length l) l
-
-  -- The sizes given, the bytes moved over and the rest are the whole list.
-  pub reading-account : (place : ℕ) (l : List ℕ) → sizesOf (readingFrom judge place l .given) + searches judge l .passed + length (readingFrom judge place l .rest) ≡ length l
-  reading-account place l =
-      let a = searches-reading place l in
-      rw (← a .handed, ← a .rest) (searches-account l)
 
   -- Any number of searches that is enough comes to the same.
   pub searches-enough : (k : ℕ) (l : List ℕ) → length l ≤ k → searchTurns judge k l ≡ searches judge l
@@ -83,7 +106,7 @@ module _ {R : Type 0} (judge : Judge R) (steady : Steady judge) where
 
   turn-at : (l : List ℕ) (s : Search R) → search judge l ≡ s → afterSearch s (λ after. searchTurns judge (length l) after) ≡ afterSearch s (searches judge)
   turn-at l (found over n r after) e =
-      let t = searches-enough (length l) after (fewer (length l) l over n r after e (omega arith)) in
+      let t = searches-enough (length l) after (omega (arith, found-fewer judge steady l over n r after e)) in
       ap (λ (o : Searched R). afterSearch (found over n r after) (λ m. o)) t
   turn-at l (nothing over rest) e = refl
 
@@ -92,12 +115,9 @@ module _ {R : Type 0} (judge : Judge R) (steady : Steady judge) where
   unfolding searchTurns
   searches-turn l = sym (searches-enough (suc (length l)) l (omega arith)) ∙ turn-at l _ refl
 
-  -- What is left is not yet told, and so short.
+  -- What is left is not yet told.
   pub searches-rest : (l : List ℕ) → judge (searches judge l .rest) ≡ notYet
   searches-rest l = ap judge (searches-reading 0 l .rest) ∙ rest-not-yet judge steady 0 l
-
-  pub searches-short : (bound : ℕ) → Bounded judge bound → (l : List ℕ) → length (searches judge l .rest) < bound
-  searches-short bound bounded l = rw (searches-reading 0 l .rest) (rest-short judge steady bound bounded 0 l)
 
   -- Searching a joined stream is searching its first part, and then what that left with the second behind it.
   pub searches-joined : (xs ys : List ℕ) → searches judge (xs ++ ys) ≡ andThen (searches judge xs) (searches judge (searches judge xs .rest ++ ys))

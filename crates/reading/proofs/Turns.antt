@@ -8,7 +8,7 @@ use lib.ListN.{length, drop, length-drop}
 use Rattle.reading.specs.Reading.{Verdict, takes, notYet, movesOn, Judge, Reading, Steady, stops, gives, readAt, readTurns, readingFrom}
 
 -- a turn that takes a byte or more leaves a list that one turn fewer is enough for
-pub shorter : (k n : ℕ) (l : List ℕ) → 0 < n → length l ≤ suc k → length (drop n l) ≤ k
+shorter : (k n : ℕ) (l : List ℕ) → 0 < n → length l ≤ suc k → length (drop n l) ≤ k
 shorter k n l p h = rw (length-drop n l) (omega arith)
 
 module _ {R : Type 0} (judge : Judge R) (steady : Steady judge) where
@@ -62,7 +62,7 @@ module _ {R : Type 0} (judge : Judge R) (steady : Steady judge) where
   same-turn place l movesOn on on′ e h = h _ (omega arith)
 
   -- Any turns that are enough give the same.
-  pub enough : (k m place : ℕ) (l : List ℕ) → length l ≤ k → length l ≤ m → readTurns judge k place l ≡ readTurns judge m place l
+  enough : (k m place : ℕ) (l : List ℕ) → length l ≤ k → length l ≤ m → readTurns judge k place l ≡ readTurns judge m place l
   unfolding readTurns
   enough zero m place [] h j = sym (no-turn m place)
   enough zero m place (x ∷ xs) h j = absurd (not-suc-le-zero h)
@@ -71,7 +71,7 @@ module _ {R : Type 0} (judge : Judge R) (steady : Steady judge) where
   enough (suc k) (suc m) place l h j = same-turn place l _ _ _ refl (λ n p. enough k m (place + n) (drop n l) (shorter k n l p h) (shorter m n l p j))
 
   -- The reading is one turn, and then the reading of what is left.
-  pub reading-turn : (place : ℕ) (l : List ℕ) (v : Verdict R) → judge l ≡ v → readingFrom judge place l ≡ readAt v place l (λ n. readingFrom judge (place + n) (drop n l))
+  reading-turn : (place : ℕ) (l : List ℕ) (v : Verdict R) → judge l ≡ v → readingFrom judge place l ≡ readAt v place l (λ n. readingFrom judge (place + n) (drop n l))
   unfolding readingFrom
   reading-turn place l v e =
       enough (length l) (suc (length l)) place l (le-refl _) (omega arith)

@@ -1,5 +1,5 @@
--- How late a good frame is given. It is given once every byte before it is settled, that is, once a bound's worth of bytes less one,
--- counted from its first, have been taken in, if no earlier frame of the reading overlaps it. Over any judge. Assumes nothing.
+-- A good frame that no earlier frame of the reading overlaps is given once every byte before it is settled: at the latest when bound - 1 bytes counted
+-- from its first, and its own last byte, have been taken in. Over any judge. Assumes nothing.
 use mathlib.Core.Path.{_≡_}
 use mathlib.Core.List.{List, [], _∷_, _++_}
 use Prim.Native.Nat.{ℕ, _+_, _-_, _<_, _≤_}

@@ -47,11 +47,6 @@ module _ {R : Type 0} where
   abbrev pub repliesOf : List (Given R) → List R
   repliesOf given = map (λ g. g .reply) given
 
-  -- the bytes of the frames given, together
-  abbrev pub sizesOf : List (Given R) → ℕ
-  sizesOf [] = 0
-  sizesOf (g ∷ gs) = g .size + sizesOf gs
-
   -- nothing is given, and l is left
   abbrev pub stops : List ℕ → Reading R
   stops l = record { given = []; rest = l }
@@ -89,10 +84,6 @@ module _ {R : Type 0} where
     abbrev pub reading : List ℕ → Reading R
     reading l = readingFrom 0 l
 
-    -- the reading o of a list l that starts at `place` goes on when more bytes come: they are appended to what o left
-    abbrev pub goesOn : ℕ → List ℕ → Reading R → List ℕ → Reading R
-    goesOn place l o more = behind (o .given) (readingFrom (unreadPlace place l o) (o .rest ++ more))
-
     -- pieces read one after the other, each appended to what the reading before it left
     unfoldable pub piecesFrom : ℕ → List ℕ → List (List ℕ) → Reading R
     piecesFrom place left [] = stops left
@@ -102,11 +93,6 @@ module _ {R : Type 0} where
 
     unfoldable pub inPieces : List (List ℕ) → Reading R
     inPieces pieces = piecesFrom 0 [] pieces
-
-    -- frames that stand in the stream: each is good at its place, and starts at `from` or where the one before it ends, or later
-    abbrev pub Stand : List ℕ → ℕ → List (Given R) → Type 0
-    Stand stream from [] = Unit
-    Stand stream from (g ∷ gs) = (from ≤ g .place) × (judge (drop (g .place) stream) ≡ takes (g .size) (g .reply)) × Stand stream (g .place + g .size) gs
 
 -- the uncut stream
 abbrev pub joined : List (List ℕ) → List ℕ

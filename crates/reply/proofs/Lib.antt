@@ -1,3 +1,3 @@
-pub mod Frames
+pub mod Answers
 pub mod Prefix
 pub mod Unique

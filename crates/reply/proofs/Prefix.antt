@@ -1,31 +1,24 @@
 -- The theorems of `decode` that a stream stands on. Assumes nothing.
-use mathlib.Core.Path.{_≡_, refl, sym, ap, _∙_}
+use mathlib.Core.Path.{_≡_, refl, ap, _∙_}
 use mathlib.Core.List.{List, _++_}
 use Prim.Native.Nat.{ℕ, _+_, _-_, _≤_}
 use native.Mathlib.Omega.{arith}
-use lib.ListN.{length, getD, take, drop, length-drop}
-use lib.Seq.{drop-append-le, take-append-le}
-use Rattle.refusals.specs.Refusals.{Refusal, Answer, given, refused, incompleteData}
-use Rattle.envelope.specs.Envelope.{judgeOf, payloadOf}
+use lib.ListN.{length, getD, take}
+use Rattle.refusals.specs.Refusals.{Answer, given, refused, incompleteData}
+use Rattle.envelope.specs.Envelope.{judgeOf}
+use Rattle.envelope.proofs.Places.{payload-kept}
 use Rattle.envelope.proofs.Prefix.{judge-prefix}
 use Rattle.envelope.proofs.Full.{judge-full}
 use Rattle.envelope.proofs.Sized.{judge-sized}
 use Rattle.envelope.proofs.OwnBytes.{judge-own-bytes, payload-own}
 use Rattle.reply.specs.Reply.{replyOf}
-use Rattle.reply.specs.Decode.{Decode, replyBy, decodeOf}
-use Rattle.reply.specs.declared.CommandReply.{CommandReply}
-
-payload-joined : (xs ys : List ℕ) (n : ℕ) → n + 2 ≤ length xs → payloadOf n (xs ++ ys) ≡ payloadOf n xs
-unfolding payloadOf
-payload-joined xs ys n h =
-    let d : length (drop 2 xs) ≡ length xs - 2 = length-drop 2 xs in
-    ap (take n) (drop-append-le 2 xs ys (omega arith)) ∙ take-append-le n (drop 2 xs) ys (omega arith)
+use Rattle.reply.specs.Decode.{replyBy, decodeOf}
 
 reply-joined : (xs ys : List ℕ) (a : Answer ℕ) → judgeOf xs ≡ a → replyBy a (xs ++ ys) ≡ replyBy a xs
 unfolding replyBy
 reply-joined xs ys (given count) e =
     let s = judge-sized xs count e in
-    ap replyOf (payload-joined xs ys (count - 5) (omega arith))
+    ap replyOf (payload-kept (count - 5) xs ys (omega arith))
 reply-joined xs ys (refused why) e = refl
 
 -- prefix: if `decode` of xs is not IncompleteData, `decode` of xs with any bytes after it is the same, reply and all

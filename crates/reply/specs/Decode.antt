@@ -1,9 +1,8 @@
 -- `decode`: what a slice is judged to be, and the reply of a good frame. Document 01, "The envelope". Assumes nothing.
-use mathlib.Core.Path.{_≡_}
 use Prim.Native.Nat.{ℕ, _-_}
 use mathlib.Core.List.{List}
 use Rattle.refusals.specs.Refusals.{Answer, given, refused}
-use Rattle.envelope.specs.Envelope.{judged, judgeOf, payloadOf}
+use Rattle.envelope.specs.Envelope.{judged, judgeOf, payloadPart}
 use Rattle.reply.specs.Reply.{replyOf, emptyReply}
 use Rattle.reply.specs.declared.CommandReply.{CommandReply}
 use Rattle.reply.specs.declared.Decoded.{Decoded}
@@ -15,7 +14,7 @@ pub record Decode : Type 0 where
 
 -- a good frame's payload carries the reply; "all of them on a refusal .. hold zeros"
 unfoldable pub replyBy : Answer ℕ → List ℕ → CommandReply
-replyBy (given count) s = replyOf (payloadOf (count - 5) s)
+replyBy (given count) s = replyOf (payloadPart (count - 5) s)
 replyBy (refused why) s = emptyReply
 
 unfoldable pub decodeOf : List ℕ → Decode

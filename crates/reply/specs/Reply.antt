@@ -5,7 +5,7 @@ use mathlib.Core.List.{List}
 use lib.Dec.{eqb}
 use lib.ListN.{getD}
 use Rattle.packer.specs.Reading.{pick, unsignedAt}
-use Rattle.fields.specs.Fields.{Field, valuesTable, setupTable, statsTable}
+use Rattle.fields.specs.Fields.{valuesTable, setupTable, statsTable}
 use Rattle.fields.specs.Reading.{unpackedRaws}
 use Rattle.firmware.specs.Firmware.{numberOf, fwVersionOf, fwInfoOf, noFwVersion, noFwInfo}
 use Rattle.firmware.specs.declared.FwVersion.{FwVersion}

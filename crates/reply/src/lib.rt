@@ -17,7 +17,7 @@ use records::SetupValues;
 use records::Stats;
 use records::Values;
 
-// The sort of a reply: the Rust's variants.
+// The kind of a reply: which of the Rust's variants it is.
 pub enum Kind {
     FwVersion,
     GetValues,
@@ -43,9 +43,6 @@ pub struct Decoded {
     pub answer: Judged,
     pub reply: CommandReply,
 }
-
-// Each of the bits 0 to 21: GetValues has every field.
-const ALL_VALUES: u32 = 4194303;
 
 impl Kind {
     // A reply's number is its id.
@@ -108,7 +105,7 @@ fn with_values(kind: Kind, mask: u32, payload: &[u8], at: usize) -> CommandReply
 fn unpack_get_values(payload: &[u8]) -> CommandReply
     ensures { λ r. ⌜ r ≡ getValuesOf (now (payload .entry)) ⌝ }
 {
-    with_values(Kind::GetValues, ALL_VALUES, payload, 1)
+    with_values(Kind::GetValues, envelope::ALL_VALUES, payload, 1)
 }
 
 fn unpack_get_values_selective(payload: &[u8]) -> CommandReply
@@ -171,13 +168,13 @@ pub fn unpack_from(payload: &[u8]) -> CommandReply
 {
     let id = id_of(payload);
     match id {
-        0 => unpack_fw_version(payload),
-        4 => unpack_get_values(payload),
-        50 => unpack_get_values_selective(payload),
-        51 => unpack_get_values_setup_selective(payload),
-        128 => unpack_get_stats(payload),
-        129 => blank(Kind::ResetStats),
-        157 => unpack_fw_info(payload),
+        envelope::FW_VERSION => unpack_fw_version(payload),
+        envelope::GET_VALUES => unpack_get_values(payload),
+        envelope::GET_VALUES_SELECTIVE => unpack_get_values_selective(payload),
+        envelope::GET_VALUES_SETUP_SELECTIVE => unpack_get_values_setup_selective(payload),
+        envelope::GET_STATS => unpack_get_stats(payload),
+        envelope::RESET_STATS => blank(Kind::ResetStats),
+        envelope::FW_INFO => unpack_fw_info(payload),
         _ => empty(),
     }
 }

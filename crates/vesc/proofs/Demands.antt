@@ -22,7 +22,7 @@ use Rattle.frame.specs.Encode.{Encodes, encodeAnswer}
 use Rattle.frame.proofs.Exact.{refused-writes-nothing}
 use Rattle.command.specs.declared.Command.{Command}
 use Rattle.frame.specs.declared.Encoded.{Encoded}
-use Rattle.envelope.specs.Envelope.{judgeOf, fieldsEnd, finishOf, judgeSumOf, payloadOf}
+use Rattle.envelope.specs.Envelope.{judgeOf, fieldsEnd, finishOf, judgeSumOf, payloadPart}
 use Rattle.envelope.proofs.Order as order
 use Rattle.reply.specs.Decode.{replyBy, decodeOf}
 use Rattle.reply.specs.Reply.{emptyReply}
@@ -73,7 +73,7 @@ module _ (s : List ℕ) where
       ended = order.end-right s (getD s 1 0) (carried s, getD s 1 0 + 2 + 2) (sum-there there) (omega arith) end ∙ finished f
 
       sum-of : summed s ≡ checksumOf (take (getD s 1 0 + 2 - 2) (drop 2 s))
-      unfolding payloadOf
+      unfolding payloadPart
       sum-of = let all : getD s 1 0 + 2 - 2 ≡ getD s 1 0 = omega arith in rw all
 
       sum-wrong : (carried s ≡ summed s → ⊥) → judgeOf s ≡ refused (checksumMismatch (carried s) (summed s))

@@ -12,7 +12,7 @@ use Rattle.fields.specs.Fields.{hasBit, takes, spanOf, rawsAt}
 use Rattle.kinds.specs.Kinds.{faultOf}
 use Rattle.records.specs.Records.{valuesWith, valuesOf}
 use Rattle.firmware.specs.Firmware.{numberOf}
-use Rattle.envelope.specs.Envelope.{byteAt, masked, getValues, fwVersion, fwInfo, fieldsEnd, payloadOf as framePayload, judgeSumOf, finishOf, judgeOf}
+use Rattle.envelope.specs.Envelope.{byteAt, masked, getValues, fwVersion, fwInfo, fieldsEnd, payloadPart, judgeSumOf, finishOf, judgeOf}
 use Rattle.reply.specs.Reply.{blankOf, emptyReply, maskOf, replyOf}
 use Rattle.reply.specs.Decode.{replyBy, decodeOf}
 use Rattle.vesc.specs.Frames.{All, frames}
@@ -21,6 +21,6 @@ pub p-frames : All frames
 unfolding
     mul round toSigned ofInt div ofBits bringDown remainder bitsOfByte bitsOf checksumOf readingOf writingOf beAt bigEndian signedOf unsignedOf readAt consumeAt nulWithin
     hopBytes payloadOf frameOf encodeAnswer encodeAfter hasBit takes spanOf rawsAt faultOf valuesWith valuesOf numberOf byteAt masked getValues fwVersion fwInfo fieldsEnd
-    framePayload judgeSumOf finishOf judgeOf blankOf emptyReply maskOf replyOf replyBy decodeOf
+    payloadPart judgeSumOf finishOf judgeOf blankOf emptyReply maskOf replyOf replyBy decodeOf
 p-frames =
     ((refl, refl), ((refl, refl), ((refl, refl), (refl, (refl, ((refl, refl), ((refl, refl), ((refl, refl), ((refl, refl), ((refl, refl), ((refl, refl), ((refl, refl), ((refl, refl), ((refl, refl), ((refl, refl), ((refl, refl), ((refl, refl, refl, refl), tt)))))))))))))))))

@@ -18,7 +18,7 @@ use Rattle.frame.specs.Encode.{Encodes, encoded}
 use Rattle.command.specs.declared.Command.{Command}
 use Rattle.frame.specs.declared.Encoded.{Encoded}
 use Rattle.frame.specs.declared.Encoded.the-variants.{Refused}
-use Rattle.envelope.specs.Envelope.{fieldsEnd, payloadOf as framePayload}
+use Rattle.envelope.specs.Envelope.{fieldsEnd, payloadPart}
 use Rattle.reply.specs.Decode.{decodeOf}
 use Rattle.reply.specs.Reply.{emptyReply}
 use Rattle.reply.specs.declared.CommandReply.{CommandReply}
@@ -45,7 +45,7 @@ abbrev pub carried : List ℕ → ℕ
 carried s = beAt s (getD s 1 0 + 2) 2
 
 abbrev pub summed : List ℕ → ℕ
-summed s = checksumOf (framePayload (getD s 1 0) s)
+summed s = checksumOf (payloadPart (getD s 1 0) s)
 
 -- the start byte is right, and the fields end where the length byte says
 pub record Fields (s : List ℕ) : Type 0 where

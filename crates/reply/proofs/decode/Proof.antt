@@ -6,7 +6,7 @@ use lib.ListN.{length}
 use Rattle.refusals.specs.Refusals.{given}
 use Rattle.envelope.specs.Envelope.{judged, judgeOf}
 use Rattle.envelope.proofs.Sized.{judge-sized}
-use Rattle.reply.proofs.Frames.{good, bad}
+use Rattle.reply.proofs.Answers.{good, bad}
 use borrow.Author.Needs.{needs}
 use Rattle.reply.proofs.decode.Statement.{statement}
 use Rattle.reply.proofs.decode.Tie as tie

@@ -1,18 +1,18 @@
 -- What `decode` answers, good or refused, from the judgement. Assumes nothing.
-use mathlib.Core.Path.{_≡_, refl, sym, ap, _∙_}
+use mathlib.Core.Path.{_≡_, ap, _∙_}
 use mathlib.Core.List.{List}
-use Prim.Native.Nat.{ℕ, _+_, _-_, _≤_}
+use Prim.Native.Nat.{ℕ, _-_}
 use native.Mathlib.Omega.{arith}
 use lib.ListN.{take, drop}
 use Rattle.refusals.specs.Refusals.{Refusal, Answer, given, refused}
-use Rattle.envelope.specs.Envelope.{judgeOf, payloadOf}
+use Rattle.envelope.specs.Envelope.{judgeOf, payloadPart}
 use Rattle.reply.specs.Reply.{replyOf, emptyReply}
-use Rattle.reply.specs.Decode.{Decode, replyBy, decodeOf}
+use Rattle.reply.specs.Decode.{replyBy, decodeOf}
 use Rattle.reply.specs.declared.CommandReply.{CommandReply}
 
 -- the payload part, as `decode` hands it on
-pub part : (s : List ℕ) (count : ℕ) → take (count - 3 - 2) (drop 2 s) ≡ payloadOf (count - 5) s
-unfolding payloadOf
+part : (s : List ℕ) (count : ℕ) → take (count - 3 - 2) (drop 2 s) ≡ payloadPart (count - 5) s
+unfolding payloadPart
 part s count = let e : count - 3 - 2 ≡ count - 5 = omega arith in ap (λ (n : ℕ). take n (drop 2 s)) e
 
 pub good : (s : List ℕ) (count : ℕ) (reply : CommandReply) → judgeOf s ≡ given count → reply ≡ replyOf (take (count - 3 - 2) (drop 2 s))
