@@ -4,10 +4,10 @@ use mathlib.Core.Path.{_≡_}
 use mathlib.Core.Bool.{true}
 use mathlib.Core.Logic.{_↔_}
 use mathlib.Core.List.{List, [], _∷_, _++_}
-use Prim.Native.Nat.{ℕ, _+_, _*_, _^_, _≤_, _<_}
+use Prim.Native.Nat.{ℕ, _+_, _^_, _≤_, _<_}
 use lib.IntN.{ℤ}
 use lib.ListN.{length, getD, take, drop}
-use Rattle.refusals.specs.Refusals.{Refusal, Answer, given, refused, incompleteData, invalidFrame, unknownPacket, checksumMismatch, bufferTooSmall, payloadTooLong}
+use Rattle.refusals.specs.Refusals.{Refusal, given, refused, incompleteData, invalidFrame, unknownPacket, checksumMismatch, bufferTooSmall, payloadTooLong}
 use Rattle.refusals.specs.declared.EncodeError.{EncodeError}
 use Rattle.checksum.specs.Xmodem.{checksumOf, registerOf}
 use Rattle.floats.specs.Near.{ReadingNear, size}
@@ -30,8 +30,8 @@ use Rattle.decoder.specs.Frames.{frames}
 
 -- "1. No call traps, hangs or relies on its caller. IncompleteData, InvalidFrame, UnknownPacket, ChecksumMismatch, BufferTooSmall and PayloadTooLong come exactly when
 -- document 01 says. A refused encode writes nothing."
--- That no call traps, hangs or relies on its caller is what the check of each crate proves: no public function has a `requires`. Of each way out below the
--- conditions exclude each other and leave none out, so each refusal comes exactly there.
+-- That no call traps, hangs or relies on its caller is what the check of each crate proves: no public function has a `requires`. The conditions of the ways
+-- out below exclude one another and leave no case out, so each refusal comes exactly where its condition holds.
 
 -- whatever `encode` answers, for every command, hops and buffer: r, with `after` in the buffer
 pub record EncodeRefuses (command : Command) (hops buffer : List ℕ) (r : Encoded) (after : List ℕ) : Type 0 where
@@ -53,13 +53,24 @@ pub record Fields (s : List ℕ) : Type 0 where
   pub start : getD s 0 0 ≡ 2
   pub read : fieldsEnd (getD s 2 0) (drop 2 s) 1 ≡ given (getD s 1 0)
 
--- what `decode` answers to a slice s, in document 01's order; n is the length byte, and the fields are read from byte 2 on
+-- "the seven replies": their ids
+abbrev pub replyIds : List ℕ
+replyIds = 0 ∷ 4 ∷ 50 ∷ 51 ∷ 128 ∷ 129 ∷ 157 ∷ []
+
+-- an id that is none of them
+abbrev pub NoneOf : List ℕ → ℕ → Type 0
+NoneOf [] id = Unit
+NoneOf (known ∷ others) id = (id ≡ known → ⊥) × NoneOf others id
+
+-- what `decode` answers to a slice s, in document 01's order; `getD s 1 0`, the length byte, is document 01's n, and the fields are read from byte 2 on
 pub record DecodeRefuses (s : List ℕ) : Type 0 where
   pub no-start : length s ≤ 0 → decodeOf s .answer ≡ refused incompleteData
   pub start-wrong : 0 < length s → (getD s 0 0 ≡ 2 → ⊥) → decodeOf s .answer ≡ refused invalidFrame
   pub no-length : 0 < length s → getD s 0 0 ≡ 2 → length s ≤ 1 → decodeOf s .answer ≡ refused incompleteData
   pub no-id : 1 < length s → getD s 0 0 ≡ 2 → length s ≤ 2 → decodeOf s .answer ≡ refused incompleteData
-  -- an id that is no reply's, a field past the end, or a name without NUL
+  -- "id (3 if not one of the seven replies, known command ids included)"
+  pub unknown-id : 2 < length s → getD s 0 0 ≡ 2 → NoneOf replyIds (getD s 2 0) → decodeOf s .answer ≡ refused (unknownPacket (getD s 2 0))
+  -- that one, a field past the end, or a name without NUL
   pub fields-wrong : 2 < length s → getD s 0 0 ≡ 2 → (why : Refusal) → fieldsEnd (getD s 2 0) (drop 2 s) 1 ≡ refused why → decodeOf s .answer ≡ refused why
   pub length-wrong : 2 < length s → getD s 0 0 ≡ 2 → (read : ℕ) → fieldsEnd (getD s 2 0) (drop 2 s) 1 ≡ given read → (getD s 1 0 ≡ read → ⊥)
       → decodeOf s .answer ≡ refused invalidFrame
@@ -94,6 +105,7 @@ pub record DemandTwo : Type 0 where
 -- `played` is `feed` and `next` as their contracts define them; `reading` is defined from `decode` alone.
 pub record DemandThree : Type 0 where
   pub replies : (pieces : List (List ℕ)) → Nonempty pieces → played frames emptyReply fresh pieces .replies ≡ repliesOf (reading frames (joined pieces) .given)
+  -- every piece is taken whole, by as many offers as it has bytes at most
   pub taken : (pieces : List (List ℕ)) (piece : List ℕ) → Nonempty pieces → 0 < length piece
       → offerTurns frames emptyReply (length piece) (played frames emptyReply fresh pieces .line) piece .left ≡ []
   pub in-time : (pieces : List (List ℕ)) (later : List ℕ) (p n : ℕ) (reply : CommandReply) → Nonempty pieces

@@ -3,8 +3,8 @@ use mathlib.Core.Path.{_≡_}
 use mathlib.Core.List.{List, [], _∷_}
 use Prim.Native.Nat.{ℕ}
 use mathlib.Core.Bool.{false}
-use lib.IntN.{ℤ, pos, negsuc}
-use lib.Ieee.{Float, fin, binary32, ofInt}
+use lib.IntN.{pos, negsuc}
+use lib.Ieee.{fin, binary32, ofInt}
 use lib.ListN.{getD, drop, length, replicate}
 use Rattle.refusals.specs.Refusals.{Answer, given, refused, incompleteData, invalidFrame, unknownPacket, checksumMismatch, bufferTooSmall}
 use Rattle.floats.specs.Numbers.{readingOf}
