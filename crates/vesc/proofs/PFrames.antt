@@ -15,9 +15,9 @@ use Rattle.firmware.specs.Firmware.{numberOf}
 use Rattle.envelope.specs.Envelope.{byteAt, masked, getValues, fwVersion, fwInfo, fieldsEnd, payloadPart, judgeSumOf, finishOf, judgeOf}
 use Rattle.reply.specs.Reply.{blankOf, emptyReply, maskOf, replyOf}
 use Rattle.reply.specs.Decode.{replyBy, decodeOf}
-use Rattle.vesc.specs.Frames.{All, frames}
+use Rattle.vesc.specs.Frames.{All, pFrames}
 
-pub p-frames : All frames
+pub p-frames : All pFrames
 unfolding
     mul round toSigned ofInt div ofBits bringDown remainder bitsOfByte bitsOf checksumOf readingOf writingOf beAt bigEndian signedOf unsignedOf readAt consumeAt nulWithin
     hopBytes payloadOf frameOf encodeAnswer encodeAfter hasBit takes spanOf rawsAt faultOf valuesWith valuesOf numberOf byteAt masked getValues fwVersion fwInfo fieldsEnd

@@ -48,8 +48,8 @@ All (row ∷ rows) = Holds row × All rows
 abbrev pub commentFrame : List ℕ
 commentFrame = 2 ∷ 7 ∷ 50 ∷ 0 ∷ 0 ∷ 1 ∷ 128 ∷ 0 ∷ 0 ∷ 4 ∷ 210 ∷ 1 ∷ 176 ∷ 254 ∷ 22 ∷ 3 ∷ []
 
-abbrev pub frames : List Row
-frames =
+abbrev pub pFrames : List Row
+pFrames =
     encodes GetValues 6 (given 6) (2 ∷ 1 ∷ 4 ∷ 64 ∷ 132 ∷ 3 ∷ [])
     ∷ encodes GetValues 5 (refused bufferTooSmall) (0 ∷ 0 ∷ 0 ∷ 0 ∷ 0 ∷ [])
     ∷ encodes Alive 6 (given 6) (2 ∷ 1 ∷ 30 ∷ 243 ∷ 255 ∷ 3 ∷ [])
