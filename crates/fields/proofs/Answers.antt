@@ -4,7 +4,7 @@ use mathlib.Core.List.{List, [], _∷_, _++_}
 use Prim.Native.Nat.{ℕ, zero, suc, _+_, _-_, _≤_, _<_}
 use native.Mathlib.Omega.{arith}
 use native.Mathlib.Nat.{sub-zero, zero-sub, suc-sub-suc, zero-add}
-use lib.ListN.{length, getD, drop, replicate}
+use lib.ListN.{length, drop, replicate}
 use lib.Seq.{sets, sets-eq}
 use borrow.Author.Tests.{le-leb, lt-leb}
 use Rattle.packer.specs.Reading.{consumeAt}
@@ -28,21 +28,6 @@ drop-zeros : (m n : ℕ) → drop {A = ℕ} n (replicate m 0) ≡ replicate (m -
 drop-zeros m zero = rw sub-zero
 drop-zeros zero (suc n) = rw zero-sub
 drop-zeros (suc m) (suc n) = rw suc-sub-suc (drop-zeros m n)
-
-zeros-at : (m k : ℕ) → getD {A = ℕ} (replicate m 0) k 0 ≡ 0
-zeros-at zero k = refl
-zeros-at (suc m) zero = refl
-zeros-at (suc m) (suc k) = zeros-at m k
-
-behind-zeros : (raws : List ℕ) (m k : ℕ) → getD (raws ++ replicate m 0) k 0 ≡ getD raws k 0
-behind-zeros [] m k = zeros-at m k
-behind-zeros (raw ∷ raws) m zero = refl
-behind-zeros (raw ∷ raws) m (suc k) = behind-zeros raws m k
-
--- the zeros past a table's last field change no number
-pub padded-at : (raws : List ℕ) (k : ℕ) → getD (padded raws) k 0 ≡ getD raws k 0
-unfolding padded
-padded-at raws k = behind-zeros raws (24 - length raws) k
 
 -- numbers stored over zeros, from the first on
 stored-padded : (raws : List ℕ) → length raws ≤ 24 → sets (replicate 24 0) 0 raws ≡ padded raws

@@ -6,9 +6,6 @@ use Prim.Native.Nat.{ℕ, _+_, _-_, _^_, _≤_}
 use native.Mathlib.Omega.{arith}
 use Rattle.packer.specs.Reading.{pick}
 use Rattle.fields.specs.Fields.{widthOf, Field, hasBit, takes, spanOf, valuesTable, setupTable, statsTable}
-use Rattle.fields.specs.Sorts.{tableOf}
-use Rattle.fields.specs.declared.Sort.{Sort}
-use Rattle.fields.specs.declared.Sort.the-variants.{Values, SetupValues, Stats}
 
 -- the bytes of all the fields of a table
 abbrev pub longest : List Field → ℕ
@@ -32,11 +29,6 @@ setup-most mask = span-most setupTable mask
 
 pub stats-most : (mask : ℕ) → spanOf statsTable mask ≤ 44
 stats-most mask = span-most statsTable mask
-
-pub any-most : (sort : Sort) (mask : ℕ) → spanOf (tableOf sort) mask ≤ 73
-any-most Values mask = values-most mask
-any-most SetupValues mask = omega (arith, setup-most mask)
-any-most Stats mask = omega (arith, stats-most mask)
 
 -- GetValues is the mask of all ones
 pub values-all : spanOf valuesTable (2 ^ 22 - 1) ≡ 73

@@ -13,8 +13,6 @@ use lib.Ieee.Exact.{HasValue}
 use lib.Ieee.Back.{round-whole}
 use lib.Ieee.Positive.{first-pos}
 use lib.Ieee.Scale.{round-same}
-use mir.Syntax.{w32}
-use mir.Val.{SFits}
 use Rattle.floats.specs.Numbers.{readingOf}
 use Rattle.floats.specs.Near.{gap, Near, size, negative, nearness, ReadingNear}
 use Rattle.floats.proofs.Rounding.{round-near, within-mul, within-cancel}
@@ -116,11 +114,3 @@ reading-near raw scale R P P' = over-whole raw (ofInt binary32 (pos scale)) scal
   where
     whole : (S : ℕ) → S ≤ 2 ^ 24 → HasValue (ofInt binary32 (pos S)) false S 1
     whole S h = round-whole binary32 false S h
-
--- the same of every i32
-pub i32-reading-near : (raw : ℤ) (scale : ℕ) → SFits w32 raw → 0 < scale → scale ≤ 2 ^ 24 → ReadingNear raw scale
-i32-reading-near raw scale F P P' = reading-near raw scale (of-i32 raw F) P P'
-  where
-    of-i32 : (z : ℤ) → SFits w32 z → size z ≤ 2 ^ 31
-    of-i32 (pos n) f = omega (arith, f .sfits)
-    of-i32 (negsuc n) f = omega (arith, f .sfits)

@@ -1,6 +1,6 @@
 -- The kinds and their numbers: a byte below the names has the kind whose number it is, any other is Unknown, 255; and a number tells its kind.
 -- Assumes nothing.
-use mathlib.Core.Path.{_≡_, refl, sym, ap, _∙_}
+use mathlib.Core.Path.{_≡_, refl, sym, _∙_}
 use mathlib.Core.Bool.{Bool, true, false, _&&_}
 use mathlib.Core.List.{List, [], _∷_}
 use Prim.Native.Nat.{ℕ, zero, suc, _+_, _≤_, _<_}
@@ -61,10 +61,6 @@ module _ {A : Type 0} where
         unnamed = λ n h. List·getD-eq-default names unknown h;
         back = back;
       }
-
-  -- so a number has one kind
-  pub same-kind : {count : ℕ} {of : ℕ → A} {number : A → ℕ} {unknown : A} → Numbered count of number unknown → (a b : A) → number a ≡ number b → a ≡ b
-  same-kind {of = of} numbered a b e = sym (numbered .back a) ∙ ap of e ∙ numbered .back b
 
 -- ---- faults
 fault-back : (kind : FaultCode) → faultOf (faultNumber kind) ≡ kind
