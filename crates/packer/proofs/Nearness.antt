@@ -5,12 +5,11 @@ use mathlib.Core.List.{List}
 use Prim.Native.Nat.{ℕ, suc, _+_, _-_, _*_, _^_, _≤_, _<_}
 use native.Mathlib.Omega.{arith}
 use lib.Dec.{T, ltb, leb, ltb→lt, nltb→le}
-use lib.IntN.{ℤ, pos, negsuc}
+use lib.IntN.{pos, negsuc}
 use lib.Ieee.{Float, binary32, ofInt, ofBits}
 use lib.ListN.{length}
 use Rattle.refusals.specs.Refusals.{Answer, given, refused, incompleteData}
-use Rattle.floats.specs.Near.{Near, negative, size, nearness, ReadingNear}
-use Rattle.floats.specs.Numbers.{readingOf}
+use Rattle.floats.specs.Near.{Near, negative, size, nearness}
 use Rattle.floats.proofs.Reading.{reading-near}
 use Rattle.floats.proofs.Scales.{scales}
 use Rattle.packer.specs.Numbers.{beAt, signedOf, pickZ}

@@ -1,14 +1,14 @@
 -- Writes of bytes into a slice: the digits of a number from its last on, a write where there is room, and two writes that are one.
 -- Assumes nothing.
-use mathlib.Core.Path.{_≡_, refl, sym, ap, ap₂, _∙_}
+use mathlib.Core.Path.{_≡_, refl, sym, ap, _∙_}
 use mathlib.Core.List.{List, [], _∷_, _++_}
 use Prim.Native.Nat.{ℕ, zero, suc, _+_, _-_, _/_, _%_, _≤_, _<_}
-use native.Mathlib.Nat.{add-zero, add-suc, suc-add, add-assoc, not-suc-le-zero, mod-eq-of-lt}
+use native.Mathlib.Nat.{add-zero, add-suc, suc-add, not-suc-le-zero, mod-eq-of-lt}
 use native.Mathlib.Omega.{arith}
 use lib.ListN.{length, set, length-append}
 use lib.Seq.{sets, sets-eq, length-sets, set-comm}
 use borrow.Author.Tests.{le-leb, lt-leb}
-use Rattle.refusals.specs.Refusals.{Answer, given, refused, bufferTooSmall}
+use Rattle.refusals.specs.Refusals.{given, refused, bufferTooSmall}
 use Rattle.packer.specs.Numbers.{bigEndian}
 use Rattle.packer.specs.Writing.{written, packAnswer, packAfter, Packs}
 use Rattle.packer.specs.declared.Packed.{Packed}
