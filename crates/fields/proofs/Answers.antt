@@ -38,10 +38,12 @@ stored-padded raws l =
     ∙ ap (λ (zeros : List ℕ). raws ++ zeros) (drop-zeros 24 (length raws))
 
 module _ (table : List Field) (mask : ℕ) (s : List ℕ) (pos : ℕ) where
+  -- where the fields' bytes are not all there
   pub lacking : (r : UnpackedFields) → r ≡ noFields → length s < pos + spanOf table mask → FieldsAt table mask s pos r
   unfolding consumeAt unpackedRaws
   lacking r e h = rw e (record { answer = rw (lt-leb (pos + spanOf table mask) (length s) h); raw = rw (lt-leb (pos + spanOf table mask) (length s) h) })
 
+  -- where they are
   pub got : (at : ℕ) (raw : List ℕ) → at ≡ pos + spanOf table mask → at ≤ length s → length table ≤ 24 → raw ≡ sets (replicate 24 0) 0 (rawsAt table mask s pos)
       → FieldsAt table mask s pos (record { answer = To at; raw = raw })
   unfolding consumeAt unpackedRaws

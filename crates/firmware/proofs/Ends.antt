@@ -1,4 +1,4 @@
--- The place after a name lies within the payload. Assumes nothing.
+-- The place after a name lies within the payload; and hw_name, with what is read of the rest, is the FwVersion of the whole. Assumes nothing.
 use mathlib.Core.Path.{_≡_, refl, ap, _∙_}
 use mathlib.Core.List.{List}
 use Prim.Native.Nat.{ℕ, _-_, _≤_}

@@ -1,4 +1,4 @@
--- The kinds and their numbers: a byte below the names has the kind whose number it is, any other is Unknown, 255; and a number tells its kind.
+-- The kinds and their numbers: a byte below the number of names is its kind's number, any other is Unknown, 255; and a number tells its kind.
 -- Assumes nothing.
 use mathlib.Core.Path.{_≡_, refl, sym, _∙_}
 use mathlib.Core.Bool.{Bool, true, false, _&&_}

@@ -1,3 +1,4 @@
+-- `packer::unpack_i32` meets its contract: the number read, made signed. Assumes nothing.
 use mathlib.Core.Path.{sym, ap, _∙_}
 use Rattle.packer.proofs.Places.{made, not-made}
 use Rattle.packer.proofs.Complement.{as-i32}
