@@ -8,7 +8,7 @@ use Rattle.packer.specs.Reading.{pick}
 use Rattle.fields.specs.Fields.{widthOf, Field, hasBit, takes, spanOf, valuesTable, setupTable, statsTable}
 
 -- the bytes of all the fields of a table
-abbrev pub longest : List Field → ℕ
+abbrev longest : List Field → ℕ
 longest [] = 0
 longest (f ∷ table) = widthOf (f .kind) + longest table
 
@@ -16,7 +16,7 @@ pick-most : (p : Bool) (n : ℕ) → pick p n 0 ≤ n
 pick-most true n = omega arith
 pick-most false n = omega arith
 
-pub span-most : (table : List Field) (mask : ℕ) → spanOf table mask ≤ longest table
+span-most : (table : List Field) (mask : ℕ) → spanOf table mask ≤ longest table
 unfolding spanOf takes
 span-most [] mask = omega arith
 span-most (f ∷ table) mask = omega (arith, pick-most (hasBit mask (f .bit)) (widthOf (f .kind)), span-most table mask)

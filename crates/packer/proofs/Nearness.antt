@@ -42,7 +42,7 @@ value-is width x v s at next e = ap (valueOr v) e ∙ go (leb (at + width) (leng
 
 module _ (width : ℕ) (narrow : 256 ^ width ≤ 2 ^ 32) (scale : ℕ) (positive : 0 < scale) (small : scale ≤ 2 ^ 24) where
   -- whatever meets the contract of a scaled reader
-  pub result-near : (s : List ℕ) (at : ℕ) (r : UnpackedF32) → unpackedF32 r ≡ scaledAt width (ofInt binary32 (pos scale)) s at → ResultNear width scale s at r
+  result-near : (s : List ℕ) (at : ℕ) (r : UnpackedF32) → unpackedF32 r ≡ scaledAt width (ofInt binary32 (pos scale)) s at → ResultNear width scale s at r
   result-near s at (Got value next) e =
       subst (λ (x : Float). Near x (negative (rawAt width s at)) (size (rawAt width s at)) scale nearness)
       (sym (value-is width value _ s at next e))

@@ -22,11 +22,11 @@ unfolding readAt
 lacking width value s at h = rw (lt-leb (at + width) (length s) h)
 
 -- an answer with its value put through a function
-abbrev pub through : {A B : Type 0} → (A → B) → Answer (A × ℕ) → Answer (B × ℕ)
+abbrev through : {A B : Type 0} → (A → B) → Answer (A × ℕ) → Answer (B × ℕ)
 through f (given (value, next)) = given (f value, next)
 through f (refused r) = refused r
 
-pub read-through : {A B : Type 0} (f : A → B) (width : ℕ) (value : A) (s : List ℕ) (at : ℕ) → through f (readAt width value s at) ≡ readAt width (f value) s at
+read-through : {A B : Type 0} (f : A → B) (width : ℕ) (value : A) (s : List ℕ) (at : ℕ) → through f (readAt width value s at) ≡ readAt width (f value) s at
 unfolding readAt
 read-through f width value s at = go (leb (at + width) (length s))
   where

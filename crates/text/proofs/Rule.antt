@@ -50,7 +50,7 @@ passed-holds more [] e = rw (drop-nil more) empty
 passed-holds (suc more) (byte ∷ bytes) e = passed-holds more bytes e
 passed-holds zero (byte ∷ bytes) e = after-first byte bytes _ refl (λ more h. passed-holds more bytes h) e
 
-pub well-formed-holds : (bytes : List ℕ) → wellFormed bytes ≡ true → WellFormed bytes
+well-formed-holds : (bytes : List ℕ) → wellFormed bytes ≡ true → WellFormed bytes
 unfolding wellFormed
 well-formed-holds bytes e = passed-holds 0 bytes e
 
@@ -122,7 +122,7 @@ row-some [] agreed e = false≢true agreed
 row-some (r ∷ row) agreed e = omega arith
 
 -- what is well-formed by the rule `wellFormed` says yes to
-pub holds-well-formed : {bytes : List ℕ} → WellFormed bytes → wellFormed bytes ≡ true
+holds-well-formed : {bytes : List ℕ} → WellFormed bytes → wellFormed bytes ≡ true
 unfolding wellFormed wellFormedAfter
 holds-well-formed empty = refl
 holds-well-formed (sequence {row} {bytes} member front rest) =
