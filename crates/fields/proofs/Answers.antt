@@ -19,7 +19,7 @@ unfolding rawsAt
 raws-length [] mask s at = refl
 raws-length (f ∷ table) mask s at = ap suc (raws-length table mask s (at + takes mask f))
 
-fields-length : (rows : List ℕ) → length (fieldsBy rows) ≡ length rows
+pub fields-length : (rows : List ℕ) → length (fieldsBy rows) ≡ length rows
 unfolding fieldsBy
 fields-length [] = refl
 fields-length (row ∷ rows) = ap suc (fields-length rows)
