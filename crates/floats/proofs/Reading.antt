@@ -2,7 +2,7 @@
 use mathlib.Core.Path.{_≡_, refl, sym, ap, _∙_, subst}
 use mathlib.Core.Bool.{Bool, true, false, cond}
 use Prim.Native.Nat.{ℕ, zero, suc, _*_, _^_, _≤_, _<_}
-use native.Mathlib.Nat.{le-trans, le-of-eq, mul-comm, mul-assoc, mul-left-comm, mul-right-comm, mul-one, mul-le-mul-right, mul-le-mul-left, mul-pos, zero-mul}
+use native.Mathlib.Nat.{le-trans, mul-assoc, mul-left-comm, mul-right-comm, mul-one, mul-le-mul-right, mul-le-mul-left, mul-pos, zero-mul}
 use native.Mathlib.Omega.{arith}
 use lib.Dec.{T, eqb, eqb→eq, lit≤}
 use lib.Pow.{pow-mono}
@@ -15,7 +15,7 @@ use lib.Ieee.Positive.{first-pos}
 use lib.Ieee.Scale.{round-same}
 use Rattle.floats.specs.Numbers.{readingOf}
 use Rattle.floats.specs.Near.{gap, Near, size, negative, nearness, ReadingNear}
-use Rattle.floats.proofs.Rounding.{round-near, within-mul, within-cancel}
+use Rattle.floats.proofs.Rounding.{round-near, times-le, within-mul, within-cancel}
 
 -- ---- a division by a float that is a whole number
 unlike-false : (s : Bool) → unlike s false ≡ s
@@ -70,9 +70,6 @@ normal S E M A h k l = wider (2 ^ 23 * (S * E)) M 49 149 (lit≤ tt) (omega arit
 
 under : (S E M A : ℕ) → gap (M * 1) A * 2 ^ 24 ≤ A → A ≤ 2 ^ 31 * E → 0 < E → E ≤ S * E → M < S * E * 2 ^ 127
 under S E M A h k p l = wider (suc M) (S * E) 33 127 (lit≤ tt) (omega arith)
-
-times-le : (a b : ℕ) → 0 < a → b ≤ a * b
-times-le a b h = le-trans (le-of-eq (sym (mul-one b) ∙ mul-comm b 1)) (mul-le-mul-right b h)
 
 divided : (y z : Float) (s : Bool) (a S : ℕ) → 0 < a → a ≤ 2 ^ 31 → 0 < S → S ≤ 2 ^ 24 → HasValue z false S 1 → Near y s a 1 (2 ^ 24) → Near (div binary32 y z) s a S nearness
 divided nan z s a S A A' P P' v n = absurd n
