@@ -1,6 +1,6 @@
 -- Two's complement, as the machine works it out. Assumes nothing.
 use mathlib.Core.Path.{_≡_, refl, sym, ap, _∙_}
-use mathlib.Core.Bool.{Bool, true, false, not}
+use mathlib.Core.Bool.{Bool, true, false, not, false≢true}
 use Prim.Native.Nat.{ℕ, zero, suc, _+_, _-_, _*_, _≤_, _<_, _^_}
 use native.Mathlib.Omega.{arith}
 use lib.Dec.{T, ltb, ltb→lt, nltb→le}
@@ -60,16 +60,13 @@ module _ (z : ℤ) (n : ℕ) (h : mag z < 2 ^ 31) (k : n < 65536) (e : z ≡ sig
 from-minus-one : (n : ℕ) → negsuc 0 -ℤ negsuc n ≡ pos n
 from-minus-one n = rw (le-ltb (suc n) 1 (omega arith)) (ap pos (omega arith))
 
-clash : {X : Type 0} → _≡_ {A = Bool} false true → X
-clash p = absurd (let o : _≡_ {A = ℕ} 0 1 = cc in omega arith)
-
 -- v below 0
 module _ (v : ℤ) (f : SFits w32 v) (t : ltZ (toZ w32 (ofZ w32 v)) (pos 0) ≡ true) where
   negative : v ≡ negsuc (mag v)
   negative = go v f t
     where
       go : (v : ℤ) → SFits w32 v → ltZ (toZ w32 (ofZ w32 v)) (pos 0) ≡ true → v ≡ negsuc (mag v)
-      go (pos n) f t = clash (sym (le-ltb n 0 (omega arith)) ∙ (rw (toZ-ofZ w32 (pos n) f) at t))
+      go (pos n) f t = absurd (false≢true (sym (le-ltb n 0 (omega arith)) ∙ (rw (toZ-ofZ w32 (pos n) f) at t)))
       go (negsuc n) f t = refl
 
   -- -1 - v is not negative
@@ -89,12 +86,12 @@ module _ (v : ℤ) (f : SFits w32 v) (t : ltZ (toZ w32 (ofZ w32 v)) (pos 0) ≡ 
 pub over : (v : ℤ) → SFits w32 v → ltZ (toZ w32 (ofZ w32 v)) (pos 0) ≡ false → (all : ℕ) → toZ w32 (ofZ w32 v) ≡ pos (unsignedOf all v)
 unfolding unsignedOf
 over (pos n) f t all = toZ-ofZ w32 (pos n) f
-over (negsuc n) f t all = clash (sym (rw (toZ-ofZ w32 (negsuc n) f) at t))
+over (negsuc n) f t all = absurd (false≢true (sym (rw (toZ-ofZ w32 (negsuc n) f) at t)))
 
 pub over-small : (v : ℤ) → SFits w32 v → ltZ (toZ w32 (ofZ w32 v)) (pos 0) ≡ false → (all : ℕ) → unsignedOf all v < 2 ^ 32
 unfolding unsignedOf
 over-small (pos n) f t all = omega (arith, f .sfits)
-over-small (negsuc n) f t all = clash (sym (rw (toZ-ofZ w32 (negsuc n) f) at t))
+over-small (negsuc n) f t all = absurd (false≢true (sym (rw (toZ-ofZ w32 (negsuc n) f) at t)))
 
 -- ---- an i16 as an i32
 module _ (v : ℤ) (f : SFits w16 v) where
