@@ -14,7 +14,7 @@ use Rattle.packer.specs.Reading.{pick, readAt, unsignedAt, consumeAt, consumed}
 use Rattle.packer.specs.declared.Consumed.{Consumed}
 use Rattle.packer.specs.declared.Consumed.the-variants.{To}
 use Rattle.packer.proofs.Places.{got}
-use Rattle.names.proofs.Places.{none}
+use Rattle.refusals.proofs.Different.{none}
 use Rattle.envelope.specs.Envelope.{andThen, byteAt, payloadOf}
 use Rattle.envelope.proofs.Answers.{Known, Kept, known-given}
 

@@ -12,7 +12,8 @@ use Rattle.packer.specs.Numbers.{beAt}
 use Rattle.packer.specs.Reading.{pick, unsignedAt, consumeAt}
 use Rattle.packer.proofs.Places.{got}
 use Rattle.names.specs.Names.{nulWithin}
-use Rattle.names.proofs.Places.{none, given-lies, given-ends}
+use Rattle.refusals.proofs.Different.{none}
+use Rattle.names.proofs.Places.{given-lies, given-ends}
 use Rattle.names.proofs.Prefix.{nul-prefix, nul-enough, drop-joined}
 use Rattle.fields.specs.Fields.{Field, spanOf}
 use Rattle.envelope.specs.Envelope.{Reader, _then_, name, masked}

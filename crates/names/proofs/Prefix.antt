@@ -7,8 +7,8 @@ use native.Mathlib.Omega.{arith}
 use lib.Dec.{eqb}
 use lib.ListN.{length, drop}
 use Rattle.refusals.specs.Refusals.{Refusal, Answer, given, refused, incompleteData, invalidFrame}
+use Rattle.refusals.proofs.Different.{none}
 use Rattle.names.specs.Names.{nulWithin}
-use Rattle.names.proofs.Places.{none}
 
 -- a choice whose second side more bytes do not change
 pick-prefix
