@@ -1,5 +1,5 @@
 -- What a whole walk answers, from where it stopped. Assumes nothing.
-use mathlib.Core.Path.{_≡_, refl, ap, _∙_}
+use mathlib.Core.Path.{_≡_, refl, sym, ap, _∙_}
 use mathlib.Core.List.{List, [], _∷_, _++_}
 use Prim.Native.Nat.{ℕ, zero, suc, _+_, _-_, _≤_, _<_}
 use native.Mathlib.Omega.{arith}
@@ -7,8 +7,9 @@ use native.Mathlib.Nat.{sub-zero, zero-sub, suc-sub-suc, zero-add}
 use lib.ListN.{length, drop, replicate}
 use lib.Seq.{sets, sets-eq}
 use borrow.Author.Tests.{le-leb, lt-leb}
-use Rattle.packer.specs.Reading.{consumeAt}
+use Rattle.refusals.specs.Refusals.{given}
 use Rattle.packer.specs.declared.Consumed.the-variants.{To}
+use Rattle.packer.proofs.Places.{bytes-got, bytes-lacking}
 use Rattle.fields.specs.Fields.{Field, takes, spanOf, rawsAt}
 use Rattle.fields.specs.Rows.{fieldsBy, Rows}
 use Rattle.fields.specs.Reading.{padded, unpackedRaws, noFields, FieldsAt}
@@ -40,18 +41,18 @@ stored-padded raws l =
 module _ (table : List Field) (mask : ℕ) (s : List ℕ) (pos : ℕ) where
   -- where the fields' bytes are not all there
   pub lacking : (r : UnpackedFields) → r ≡ noFields → length s < pos + spanOf table mask → FieldsAt table mask s pos r
-  unfolding consumeAt unpackedRaws
-  lacking r e h = rw e (record { answer = rw (lt-leb (pos + spanOf table mask) (length s) h); raw = rw (lt-leb (pos + spanOf table mask) (length s) h) })
+  unfolding unpackedRaws
+  lacking r e h = rw e (record { answer = sym (bytes-lacking (spanOf table mask) s pos h); raw = rw (lt-leb (pos + spanOf table mask) (length s) h) })
 
   -- where they are
   pub got : (at : ℕ) (raw : List ℕ) → at ≡ pos + spanOf table mask → at ≤ length s → length table ≤ 24 → raw ≡ sets (replicate 24 0) 0 (rawsAt table mask s pos)
       → FieldsAt table mask s pos (record { answer = To at; raw = raw })
-  unfolding consumeAt unpackedRaws
+  unfolding unpackedRaws
   got at raw e l n r =
       let h : pos + spanOf table mask ≤ length s = omega arith in
       let few : length (rawsAt table mask s pos) ≤ 24 = omega (arith, raws-length table mask s pos) in
       record {
-        answer = rw (le-leb (pos + spanOf table mask) (length s) h, e);
+        answer = ap given e ∙ sym (bytes-got (spanOf table mask) s pos h);
         raw = rw (le-leb (pos + spanOf table mask) (length s) h) (r ∙ stored-padded (rawsAt table mask s pos) few);
       }
 
