@@ -8,6 +8,7 @@ use native.Mathlib.Omega.{arith}
 use borrow.Author.Tests.{eqb-true}
 use lib.ListN.{length, getD}
 use Rattle.refusals.specs.Refusals.{Refusal, Answer, given, refused, incompleteData, invalidFrame, decodeRefusal}
+use Rattle.refusals.proofs.Different.{none}
 use Rattle.refusals.specs.declared.DecodeError.{DecodeError}
 use Rattle.refusals.specs.declared.DecodeError.the-variants.{IncompleteData, InvalidFrame, UnknownPacket, ChecksumMismatch}
 use Rattle.envelope.specs.Envelope.{judged, payloadPart, judgeOf}
@@ -23,9 +24,6 @@ use Rattle.reading.specs.Reading.{takes, notYet, movesOn, Steady, Bounded}
 use Rattle.decoder.specs.Frames.{isIncompleteData, stopsIf, verdictOf, frames}
 
 -- ---- what a verdict was made from
-
-none : {A : Type 0} → _≡_ {A = ℕ} 0 1 → A
-none z = absurd (omega arith)
 
 one-is : (number : ℕ) (values : List ℕ) (b : Bool) → isIncompleteData number values ≡ b → stopsIf b ≡ notYet → _≡_ {A = Refusal} (record { number = number; values = values }) incompleteData
 one-is number [] true e q = let n : number ≡ 1 = eqb-true number 1 e in λ i. record { number = n i; values = [] }

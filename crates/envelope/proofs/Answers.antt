@@ -4,7 +4,7 @@ use mathlib.Core.Path.{_≡_, refl, ap}
 use mathlib.Core.Bool.{Bool, true, false}
 use Prim.Native.Nat.{ℕ}
 use Rattle.refusals.specs.Refusals.{Refusal, Answer, given, refused, incompleteData}
-use Rattle.names.proofs.Places.{none}
+use Rattle.refusals.proofs.Different.{none}
 use Rattle.envelope.specs.Envelope.{andThen, unless}
 
 -- ---- no IncompleteData

@@ -11,10 +11,10 @@ use Rattle.refusals.specs.Refusals.{given, invalidFrame}
 use Rattle.checksum.specs.Xmodem.{checksumOf}
 use Rattle.packer.specs.Numbers.{beAt}
 use Rattle.packer.specs.Reading.{unsignedAt}
-use Rattle.packer.proofs.Places.{got}
+use Rattle.packer.proofs.Places.{got, read-given}
 use Rattle.envelope.specs.Envelope.{byteAt, fieldsEnd, payloadPart, judgeSumOf, finishOf, judgeOf}
 use Rattle.envelope.proofs.Answers.{given-same, given-then, given-unless}
-use Rattle.envelope.proofs.Places.{byte-given, number-given}
+use Rattle.envelope.proofs.Places.{byte-given}
 use Rattle.envelope.proofs.Order.{end-right, headed}
 
 -- a good frame at the start of s, of n payload bytes
@@ -42,7 +42,7 @@ finish-ended s n count e =
     let last = given-then (byteAt s (n + 4)) _ count (carried .second) in
     let right = given-unless (eqb (last .value) 3) invalidFrame _ count (last .second) in
     let sum = given-unless (eqb (carried .value .0) (checksumOf (payloadPart n s))) _ _ count (right .then) in
-    let number = number-given 2 s (n + 2) (carried .value) (carried .first) in
+    let number = read-given 2 (beAt s (n + 2) 2) s (n + 2) (carried .value) (carried .first) in
     let byte = byte-given s (n + 4) (last .value) (last .first) in
     record {
       there = omega arith;

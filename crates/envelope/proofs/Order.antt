@@ -4,12 +4,12 @@ use mathlib.Core.List.{List}
 use Prim.Native.Nat.{ℕ, _+_, _-_, _≤_, _<_}
 use native.Mathlib.Omega.{arith}
 use lib.Dec.{eqb}
-use lib.ListN.{length, getD, take, drop, length-drop}
-use lib.Seq.{take-all}
+use lib.ListN.{length, getD, take, drop}
 use borrow.Author.Tests.{eq-eqb, ne-eqb}
 use Rattle.refusals.specs.Refusals.{Refusal, given, refused, incompleteData, invalidFrame, checksumMismatch}
 use Rattle.checksum.specs.Xmodem.{checksumOf}
 use Rattle.packer.specs.Reading.{unsignedAt}
+use Rattle.packer.proofs.Places.{lent-whole}
 use Rattle.envelope.specs.Envelope.{andThen, unless, fieldsEnd, payloadPart, judgeSumOf, finishOf, judgeOf}
 use Rattle.envelope.proofs.Places.{byte-got, byte-lacking}
 
@@ -79,16 +79,12 @@ module _ (s : List ℕ) where
           let second : 1 < length s = omega arith in
           rw (byte-got s 0 first, eq-eqb _ _ start, byte-got s 1 second, byte-got s 2 there, declared)
 
-      -- the part from byte 2 on is lent as so many bytes
-      part-whole : take (length s - 2) (drop 2 s) ≡ drop 2 s
-      part-whole = take-all (length s - 2) (drop 2 s) (simp length-drop (omega arith))
-
       pub fields-wrong : (why : Refusal) → refused why ≡ fieldsEnd (getD s 2 0) (take (length s - 2) (drop 2 s)) 1 → refused why ≡ judgeOf s
-      fields-wrong why e = rw (headed, ← part-whole, ← e)
+      fields-wrong why e = rw (headed, ← lent-whole 2 s, ← e)
 
       module _ (read : ℕ) (fields : given read ≡ fieldsEnd (getD s 2 0) (take (length s - 2) (drop 2 s)) 1) where
         pub length-wrong : (n ≡ read → ⊥) → refused invalidFrame ≡ judgeOf s
-        length-wrong differs = rw (headed, ← part-whole, ← fields, ne-eqb n read differs)
+        length-wrong differs = rw (headed, ← lent-whole 2 s, ← fields, ne-eqb n read differs)
 
         pub length-right : n ≡ read → finishOf s n ≡ judgeOf s
-        length-right same = rw (headed, ← part-whole, ← fields, eq-eqb n read same)
+        length-right same = rw (headed, ← lent-whole 2 s, ← fields, eq-eqb n read same)

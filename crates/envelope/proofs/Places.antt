@@ -13,8 +13,8 @@ use Rattle.packer.specs.Numbers.{beAt}
 use Rattle.packer.specs.Reading.{pick, readAt, unsignedAt, consumeAt, consumed}
 use Rattle.packer.specs.declared.Consumed.{Consumed}
 use Rattle.packer.specs.declared.Consumed.the-variants.{To}
-use Rattle.packer.proofs.Places.{got}
-use Rattle.names.proofs.Places.{none}
+use Rattle.packer.proofs.Places.{got, bytes-got, bytes-lacking}
+use Rattle.refusals.proofs.Different.{none}
 use Rattle.fields.proofs.OwnBytes.{number-prefix}
 use Rattle.envelope.specs.Envelope.{andThen, byteAt, payloadPart}
 use Rattle.envelope.proofs.Answers.{Known, Kept, known-given}
@@ -70,14 +70,6 @@ byte-kept xs ys at =
 
 -- ---- a number
 
-pub number-given
-    : (width : ℕ) (s : List ℕ) (at : ℕ) (value : ℕ × ℕ) → unsignedAt width s at ≡ given value
-    → (at + width ≤ length s) × ((beAt s at width, at + width) ≡ value)
-unfolding readAt
-number-given width s at value e =
-    let read = read-given (leb (at + width) (length s)) (beAt s at width, at + width) value e in
-    (leb-true (at + width) (length s) (read .0), read .1)
-
 pub number-known : (width : ℕ) (s : List ℕ) (at : ℕ) → at + width ≤ length s → Known (unsignedAt width s at)
 number-known width s at there = rw (got width (beAt s at width) s at there) (known-given (beAt s at width, at + width))
 
@@ -96,14 +88,6 @@ number-own zero xs at end before = refl
 number-own (suc width) xs at end before = rw (number-own width xs at end (omega arith), getD-take end xs (at + width) 0 (omega arith))
 
 -- ---- bytes as they stand
-
-pub bytes-got : (width : ℕ) (s : List ℕ) (at : ℕ) → at + width ≤ length s → consumeAt width s at ≡ given (at + width)
-unfolding consumeAt
-bytes-got width s at there = rw (le-leb (at + width) (length s) there)
-
-bytes-lacking : (width : ℕ) (s : List ℕ) (at : ℕ) → length s < at + width → consumeAt width s at ≡ refused incompleteData
-unfolding consumeAt
-bytes-lacking width s at past = rw (lt-leb (at + width) (length s) past)
 
 pub bytes-given
     : (width : ℕ) (s : List ℕ) (at next : ℕ) → consumeAt width s at ≡ given next → (at + width ≤ length s) × (at + width ≡ next)

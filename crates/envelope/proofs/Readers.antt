@@ -10,14 +10,15 @@ use lib.Seq.{take-nil}
 use Rattle.refusals.specs.Refusals.{Answer, given, refused, unknownPacket}
 use Rattle.packer.specs.Numbers.{beAt}
 use Rattle.packer.specs.Reading.{pick, unsignedAt, consumeAt}
-use Rattle.packer.proofs.Places.{got}
+use Rattle.packer.proofs.Places.{got, read-given, bytes-got}
 use Rattle.names.specs.Names.{nulWithin}
-use Rattle.names.proofs.Places.{none, given-lies, given-ends}
+use Rattle.refusals.proofs.Different.{none}
+use Rattle.names.proofs.Places.{given-lies, given-ends}
 use Rattle.names.proofs.Prefix.{nul-prefix, nul-enough, drop-joined}
 use Rattle.fields.specs.Fields.{Field, spanOf}
 use Rattle.envelope.specs.Envelope.{Reader, _then_, name, masked}
 use Rattle.envelope.proofs.Answers.{Known, known-given, known-refused, known-then, Kept, kept-then, given-then}
-use Rattle.envelope.proofs.Places.{own-there, number-given, number-kept, number-own, bytes-got, bytes-given, bytes-kept}
+use Rattle.envelope.proofs.Places.{own-there, number-kept, number-own, bytes-given, bytes-kept}
 
 -- a reader of at most `width` bytes
 pub record Reads (width : ℕ) (r : Reader) : Type 0 where
@@ -153,7 +154,7 @@ module _ (table : List Field) where
   unfolding masked
   masked-given s at next e =
       let two = given-then (unsignedAt 4 s at) (λ mask. consumeAt (spanOf table (mask .0)) s (mask .1)) next e in
-      let read = number-given 4 s at (two .value) (two .first) in
+      let read = read-given 4 (beAt s at 4) s at (two .value) (two .first) in
       (read .0, ap (λ (mask : ℕ × ℕ). consumeAt (spanOf table (mask .0)) s (mask .1)) (read .1) ∙ two .second)
 
   masked-got : (s : List ℕ) (at : ℕ) → at + 4 ≤ length s → masked table s at ≡ consumeAt (spanOf table (beAt s at 4)) s (at + 4)

@@ -6,12 +6,9 @@ use Prim.Native.Nat.{ℕ, _+_, _-_, _^_, _≤_}
 use native.Mathlib.Omega.{arith}
 use Rattle.packer.specs.Reading.{pick}
 use Rattle.fields.specs.Fields.{widthOf, Field, hasBit, takes, spanOf, valuesTable, setupTable, statsTable}
-use Rattle.fields.specs.Sorts.{tableOf}
-use Rattle.fields.specs.declared.Sort.{Sort}
-use Rattle.fields.specs.declared.Sort.the-variants.{Values, SetupValues, Stats}
 
 -- the bytes of all the fields of a table
-abbrev pub longest : List Field → ℕ
+abbrev longest : List Field → ℕ
 longest [] = 0
 longest (f ∷ table) = widthOf (f .kind) + longest table
 
@@ -19,7 +16,7 @@ pick-most : (p : Bool) (n : ℕ) → pick p n 0 ≤ n
 pick-most true n = omega arith
 pick-most false n = omega arith
 
-pub span-most : (table : List Field) (mask : ℕ) → spanOf table mask ≤ longest table
+span-most : (table : List Field) (mask : ℕ) → spanOf table mask ≤ longest table
 unfolding spanOf takes
 span-most [] mask = omega arith
 span-most (f ∷ table) mask = omega (arith, pick-most (hasBit mask (f .bit)) (widthOf (f .kind)), span-most table mask)
@@ -32,11 +29,6 @@ setup-most mask = span-most setupTable mask
 
 pub stats-most : (mask : ℕ) → spanOf statsTable mask ≤ 44
 stats-most mask = span-most statsTable mask
-
-pub any-most : (sort : Sort) (mask : ℕ) → spanOf (tableOf sort) mask ≤ 73
-any-most Values mask = values-most mask
-any-most SetupValues mask = omega (arith, setup-most mask)
-any-most Stats mask = omega (arith, stats-most mask)
 
 -- GetValues is the mask of all ones
 pub values-all : spanOf valuesTable (2 ^ 22 - 1) ≡ 73

@@ -1,28 +1,22 @@
 -- One turn of a walk: what stands in a row of the code's table, and what is left of the fields after it. Assumes nothing.
 use mathlib.Core.Path.{_≡_, refl}
-use mathlib.Core.Bool.{Bool, true, false, _&&_}
+use mathlib.Core.Bool.{Bool, true, false}
 use mathlib.Core.List.{List, [], _∷_}
 use Prim.Native.Nat.{ℕ, zero, suc, _+_, _/_, _%_, _^_, _≤_, _<_}
 use native.Mathlib.Omega.{arith}
 use native.Mathlib.Numerals.{add-one}
 use borrow.Author.Tests.{eq-eqb, ne-eqb}
 use lib.Dec.{T, eqb, eqb→eq}
-use lib.ListN.{length, getD, drop, set}
+use lib.Ieee.Fits.{and-l, and-r}
+use lib.ListN.{length, getD, drop, set, drop-of-length-le}
 use lib.Seq.{sets}
 use Rattle.packer.specs.Numbers.{beAt}
 use Rattle.packer.specs.Reading.{pick}
 use Rattle.fields.specs.Fields.{h, b, u, widthOf, field, hasBit, takes, spanOf, rawsAt}
 use Rattle.fields.specs.Rows.{kindBy, fieldsBy, rowsFit, Narrow, Rows}
+use Rattle.fields.proofs.Answers.{fields-length}
 
 -- ---- a row
-and-left : (p q : Bool) → T (p && q) → T p
-and-left true q t = tt
-and-left false q t = t
-
-and-right : (p q : Bool) → T (p && q) → T q
-and-right true q t = t
-and-right false q t = absurd t
-
 narrow-kind : (p q : Bool) (width : ℕ) → widthOf (pick p b (pick q (h 1) u)) ≡ width → Narrow width
 narrow-kind true q width e = record { most = omega arith; not-three = λ f. omega arith }
 narrow-kind false true width e = record { most = omega arith; not-three = λ f. omega arith }
@@ -48,17 +42,10 @@ record Row (rows : List ℕ) (k : ℕ) : Type 0 where
 row-at : (rows : List ℕ) (k : ℕ) → T (rowsFit rows) → k < length rows → Row rows k
 unfolding fieldsBy
 row-at [] k t l = absurd (omega arith)
-row-at (row ∷ rows) zero t l = record { width = eqb→eq (widthOf (kindBy (row % 8))) (row % 8) (and-left (eqb (widthOf (kindBy (row % 8))) (row % 8)) _ t); next = refl }
+row-at (row ∷ rows) zero t l = record { width = eqb→eq (widthOf (kindBy (row % 8))) (row % 8) (and-l (eqb (widthOf (kindBy (row % 8))) (row % 8)) _ t); next = refl }
 row-at (row ∷ rows) (suc k) t l =
-    let r : Row rows k = row-at rows k (and-right (eqb (widthOf (kindBy (row % 8))) (row % 8)) _ t) (omega arith) in
+    let r : Row rows k = row-at rows k (and-r (eqb (widthOf (kindBy (row % 8))) (row % 8)) _ t) (omega arith) in
     record { width = r .width; next = r .next }
-
-past : (rows : List ℕ) (k : ℕ) → length rows ≤ k → drop k (fieldsBy rows) ≡ []
-unfolding fieldsBy
-past [] zero l = refl
-past [] (suc k) l = refl
-past (row ∷ rows) zero l = absurd (omega arith)
-past (row ∷ rows) (suc k) l = past rows k (omega arith)
 
 -- ---- the walk's needs at the row k
 module _ {rows : List ℕ} (good : Rows rows) (mask k : ℕ) (l : k < length rows) where
@@ -82,6 +69,9 @@ module _ {rows : List ℕ} (good : Rows rows) (mask k : ℕ) (l : k < length row
   stored-next s raw at taken number e n = rw (raws-next s at taken e, n, add-one)
 
 -- after the last row nothing is left
+past : (rows : List ℕ) (k : ℕ) → length rows ≤ k → drop k (fieldsBy rows) ≡ []
+past rows k l = drop-of-length-le (fieldsBy rows) {i = k} (rw (fields-length rows) l)
+
 pub raws-past : (rows : List ℕ) (mask k : ℕ) (s raw : List ℕ) (at : ℕ) → length rows ≤ k
     → sets raw k (rawsAt (drop k (fieldsBy rows)) mask s at) ≡ raw
 unfolding rawsAt

@@ -1,15 +1,14 @@
--- The place after a name lies within the payload. Assumes nothing.
+-- The place after a name lies within the payload; and hw_name, with what is read of the rest, is the FwVersion of the whole. Assumes nothing.
 use mathlib.Core.Path.{_≡_, refl, ap, _∙_}
 use mathlib.Core.List.{List}
 use Prim.Native.Nat.{ℕ, _-_, _≤_}
-use native.Mathlib.Nat.{le-of-eq}
 use native.Mathlib.Omega.{arith}
-use lib.ListN.{length, getD, take, drop, length-drop}
-use lib.Seq.{take-all}
+use lib.ListN.{length, getD, take, drop}
 use Rattle.refusals.specs.Refusals.{Answer, given, refused}
 use Rattle.names.specs.Names.{Name, nameAt, named39, scanned}
 use Rattle.names.specs.declared.Name39.{Name39}
 use Rattle.names.proofs.Places.{name-ends}
+use Rattle.packer.proofs.Places.{lent-whole}
 use Rattle.firmware.specs.Firmware.{endOf, fwVersionAfter, fwVersionOf}
 
 end-inside : (room : ℕ) (payload : List ℕ) (at : ℕ) (answer : Answer ℕ) → nameAt room payload at .answer ≡ answer → endOf answer ≤ length payload
@@ -28,6 +27,4 @@ module _ (payload : List ℕ) (n : ℕ) (hw : Name39) (e : n ≡ endOf (scanned 
   pub handed-on : (major minor : ℕ) → major ≡ getD payload 1 0 → minor ≡ getD payload 2 0
       → fwVersionAfter major minor (hw .bytes) (take (length payload - n) (drop n payload)) ≡ fwVersionOf payload
   unfolding fwVersionOf
-  handed-on major minor p q =
-      let all : take (length payload - n) (drop n payload) ≡ drop n payload = take-all (length payload - n) (drop n payload) (le-of-eq (length-drop n payload)) in
-      λ i. fwVersionAfter (p i) (q i) (name i .bytes) ((all ∙ ap (λ (k : ℕ). drop k payload) end-is) i)
+  handed-on major minor p q = λ i. fwVersionAfter (p i) (q i) (name i .bytes) ((lent-whole n payload ∙ ap (λ (k : ℕ). drop k payload) end-is) i)

@@ -1,6 +1,6 @@
 -- A float cut toward zero and held at the ends of an i32: what each test of `f32_to_i32` leaves of `toSigned 31`. Assumes nothing.
 use mathlib.Core.Path.{_≡_, refl, sym, ap}
-use mathlib.Core.Bool.{true, false}
+use mathlib.Core.Bool.{true, false, false≢true}
 use Prim.Native.Nat.{ℕ, _+_, _*_, _/_, _≤_, _<_}
 use native.Mathlib.Nat.{mul-one, div-lt-iff-lt-mul, le-div-iff-mul-le, min-eq-left, min-eq-right}
 use native.Mathlib.Omega.{arith}
@@ -14,7 +14,6 @@ use lib.Ieee.Casts.{toSigned-in}
 use mir.Syntax.{w32, w64}
 use mir.Val.{SFits, toZ, ofZ}
 use mir.ValLaws.{toZ-ofZ}
-use Rattle.floats.proofs.NotANumber.{clash}
 
 -- the ends of the range: -2147483648, and the first float past it
 abbrev bottom : Float
@@ -33,16 +32,16 @@ module _ (m : ℕ) (e : ℤ) where
 
 pub at-bottom : (x : Float) → lt x bottom ≡ true → negsuc 2147483647 ≡ toSigned 31 x
 unfolding lt toSigned
-at-bottom nan p = clash p
+at-bottom nan p = absurd (false≢true p)
 at-bottom (inf true) p = refl
-at-bottom (inf false) p = clash p
-at-bottom (fin false m e) p = clash p
+at-bottom (inf false) p = absurd (false≢true p)
+at-bottom (fin false m e) p = absurd (false≢true p)
 at-bottom (fin true m e) p = let h : 2147483648 * down e < m * up e * 1 = ltb-true _ _ p in rw (min-eq-right (above m e 2147483648 (omega arith)))
 
 pub at-top : (x : Float) → ne x x ≡ false → lt x past ≡ false → pos 2147483647 ≡ toSigned 31 x
 unfolding lt ne eq toSigned
-at-top nan p q = clash (sym p)
-at-top (inf true) p q = clash (sym q)
+at-top nan p q = absurd (false≢true (sym p))
+at-top (inf true) p q = absurd (false≢true (sym q))
 at-top (inf false) p q = refl
 at-top (fin false m e) p q = let h : 2147483648 ≤ m * up e / down e = above m e 2147483648 (ltb-false _ _ q) in ap pos (sym (min-eq-right (omega arith)))
 at-top (fin true m e) p q = let h : m * up e * 1 + 2147483648 * down e ≤ 0 = ltb-false _ _ q in absurd (omega (arith, down-pos e))
@@ -55,9 +54,9 @@ pub record Between (x : Float) : Type 0 where
 
 pub between : (x : Float) → lt x bottom ≡ false → lt x past ≡ true → Between x
 unfolding lt le eq toSigned
-between nan p q = clash q
-between (inf true) p q = clash (sym p)
-between (inf false) p q = clash q
+between nan p q = absurd (false≢true q)
+between (inf true) p q = absurd (false≢true (sym p))
+between (inf false) p q = absurd (false≢true q)
 between (fin false m e) p q =
     let h : m * up e * 1 < 2147483648 * down e = ltb-true _ _ q in
     let k : m * up e / down e < 2147483648 = below m e 2147483648 h in

@@ -1,17 +1,12 @@
 -- What the tests of the code say of a NaN and of its patterns. Assumes nothing.
 use mathlib.Core.Path.{_≡_, refl, sym, _∙_, subst}
-use mathlib.Core.Bool.{Bool, true, false, not}
+use mathlib.Core.Bool.{true, false, not, false≢true}
 use Prim.Native.Nat.{ℕ, _%_, _≤_, _<_}
-use native.Mathlib.Omega.{arith}
 use borrow.Author.Tests.{lt-ltb, le-ltb}
 use lib.Dec.{T}
 use lib.Ieee.{Float, nan, inf, fin, binary32, ne, eq, isNan, nanBits, ofBits}
 use lib.Ieee.Bits.{nanBits-is, nanBits-above}
 use lib.Ieee.Compare.{differs-from-itself}
-
--- a test has one answer
-pub clash : {X : Type 0} → _≡_ {A = Bool} false true → X
-clash p = absurd (let o : _≡_ {A = ℕ} 0 1 = cc in omega arith)
 
 -- only a NaN differs from itself
 pub is-nan : (x : Float) → ne x x ≡ true → x ≡ nan
@@ -19,7 +14,7 @@ is-nan x t = differs-from-itself x (subst T (sym t) tt)
 
 pub no-nan : (x : Float) → ne x x ≡ false → T (not (isNan x))
 unfolding ne eq isNan
-no-nan nan t = clash (sym t)
+no-nan nan t = absurd (false≢true (sym t))
 no-nan (inf s) t = tt
 no-nan (fin s m e) t = tt
 
@@ -34,5 +29,5 @@ nan-pattern bits h =
   where
     only : (x : Float) → isNan x ≡ true → nan ≡ x
     only nan t = refl
-    only (inf s) t = clash t
-    only (fin s m e) t = clash t
+    only (inf s) t = absurd (false≢true t)
+    only (fin s m e) t = absurd (false≢true t)

@@ -2,7 +2,7 @@
 use mathlib.Core.Path.{_≡_, refl, sym, ap, _∙_, subst}
 use mathlib.Core.Bool.{Bool, true, false, cond}
 use Prim.Native.Nat.{ℕ, zero, suc, _*_, _^_, _≤_, _<_}
-use native.Mathlib.Nat.{le-trans, le-of-eq, mul-comm, mul-assoc, mul-left-comm, mul-right-comm, mul-one, mul-le-mul-right, mul-le-mul-left, mul-pos, zero-mul}
+use native.Mathlib.Nat.{le-trans, mul-assoc, mul-left-comm, mul-right-comm, mul-one, mul-le-mul-right, mul-le-mul-left, mul-pos, zero-mul}
 use native.Mathlib.Omega.{arith}
 use lib.Dec.{T, eqb, eqb→eq, lit≤}
 use lib.Pow.{pow-mono}
@@ -13,11 +13,9 @@ use lib.Ieee.Exact.{HasValue}
 use lib.Ieee.Back.{round-whole}
 use lib.Ieee.Positive.{first-pos}
 use lib.Ieee.Scale.{round-same}
-use mir.Syntax.{w32}
-use mir.Val.{SFits}
 use Rattle.floats.specs.Numbers.{readingOf}
 use Rattle.floats.specs.Near.{gap, Near, size, negative, nearness, ReadingNear}
-use Rattle.floats.proofs.Rounding.{round-near, within-mul, within-cancel}
+use Rattle.floats.proofs.Rounding.{round-near, times-le, within-mul, within-cancel}
 
 -- ---- a division by a float that is a whole number
 unlike-false : (s : Bool) → unlike s false ≡ s
@@ -73,9 +71,6 @@ normal S E M A h k l = wider (2 ^ 23 * (S * E)) M 49 149 (lit≤ tt) (omega arit
 under : (S E M A : ℕ) → gap (M * 1) A * 2 ^ 24 ≤ A → A ≤ 2 ^ 31 * E → 0 < E → E ≤ S * E → M < S * E * 2 ^ 127
 under S E M A h k p l = wider (suc M) (S * E) 33 127 (lit≤ tt) (omega arith)
 
-times-le : (a b : ℕ) → 0 < a → b ≤ a * b
-times-le a b h = le-trans (le-of-eq (sym (mul-one b) ∙ mul-comm b 1)) (mul-le-mul-right b h)
-
 divided : (y z : Float) (s : Bool) (a S : ℕ) → 0 < a → a ≤ 2 ^ 31 → 0 < S → S ≤ 2 ^ 24 → HasValue z false S 1 → Near y s a 1 (2 ^ 24) → Near (div binary32 y z) s a S nearness
 divided nan z s a S A A' P P' v n = absurd n
 divided (inf t) z s a S A A' P P' v n = absurd n
@@ -116,11 +111,3 @@ reading-near raw scale R P P' = over-whole raw (ofInt binary32 (pos scale)) scal
   where
     whole : (S : ℕ) → S ≤ 2 ^ 24 → HasValue (ofInt binary32 (pos S)) false S 1
     whole S h = round-whole binary32 false S h
-
--- the same of every i32
-pub i32-reading-near : (raw : ℤ) (scale : ℕ) → SFits w32 raw → 0 < scale → scale ≤ 2 ^ 24 → ReadingNear raw scale
-i32-reading-near raw scale F P P' = reading-near raw scale (of-i32 raw F) P P'
-  where
-    of-i32 : (z : ℤ) → SFits w32 z → size z ≤ 2 ^ 31
-    of-i32 (pos n) f = omega (arith, f .sfits)
-    of-i32 (negsuc n) f = omega (arith, f .sfits)

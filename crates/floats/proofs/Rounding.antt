@@ -3,7 +3,7 @@
 use mathlib.Core.Path.{_≡_, refl, sym, ap, _∙_, subst}
 use mathlib.Core.Bool.{Bool, not}
 use Prim.Native.Nat.{ℕ, zero, suc, _+_, _-_, _*_, _/_, _%_, _^_, _≤_, _<_, compare, Ordering, Ordering·lt, Ordering·eq, Ordering·gt}
-use native.Mathlib.Nat.{le-trans, le-of-eq, lt-of-le-of-lt, lt-of-lt-of-le, mul-comm, mul-assoc, mul-right-comm, suc-mul, add-mul, mul-sub, mul-le-mul-right, mul-lt-mul-of-pos-right, le-of-mul-le-mul-right, lt-of-mul-lt-mul-right, le-div-iff-mul-le, div-add-mod', mod-lt, mul-pos}
+use native.Mathlib.Nat.{le-trans, le-of-eq, le-mul-of-pos-right, lt-of-le-of-lt, lt-of-lt-of-le, mul-comm, mul-assoc, mul-right-comm, suc-mul, add-mul, mul-sub, mul-le-mul-right, mul-lt-mul-of-pos-right, le-of-mul-le-mul-right, lt-of-mul-lt-mul-right, le-div-iff-mul-le, div-add-mod', mod-lt, mul-pos}
 use native.Mathlib.Omega.{arith}
 use lib.Dec.{T, isLe, isEq, eqb, leb→le, nleb→lt, eqb→eq, eqb-refl}
 use lib.Arith.{lt-of-le-ne}
@@ -102,9 +102,8 @@ part g u P n h k = le-trans (le-of-eq (sym (mul-assoc g 2 P))) (le-trans (mul-le
 doubled : (q n u : ℕ) → gap q n * 2 ≤ u → u ≤ n → q ≤ n * 2
 doubled q n u h k = omega arith
 
-le-times : (P u n : ℕ) → 0 < P → P * u ≤ n → u ≤ n
-le-times (suc P) u n h k = let x : suc P * u ≡ P * u + u = suc-mul P u in omega arith
-le-times zero u n h k = absurd (omega arith)
+pub times-le : (a b : ℕ) → 0 < a → b ≤ a * b
+times-le a b h = le-trans (le-mul-of-pos-right b h) (le-of-eq (mul-comm b a))
 
 -- num / den is in the normal range and below 2 ^ emax. In units of the format's smallest value it is n / den; what is kept of it is q * 2 ^ k.
 pub round-near : (f : Format) (s : Bool) (num den : ℕ) → 0 < den → 2 ^ (prec f - 1) * den ≤ num * 2 ^ low f → num < den * 2 ^ emax f
@@ -120,7 +119,7 @@ round-near f s num den D N B =
     let e : q * u ≡ q * 2 ^ k * den = ap (λ (z : ℕ). q * z) (mul-comm den (2 ^ k)) ∙ sym (mul-assoc q (2 ^ k) den) in
     let near : gap (q * u) n * 2 ^ prec f ≤ n = subst (λ (z : ℕ). gap (q * u) n * z ≤ n) (twice f) (part (gap (q * u) n) u (2 ^ (prec f - 1)) n err small) in
     let under : q * 2 ^ k < 2 ^ (low f + suc (emax f)) = lt-of-mul-lt-mul-right den
-    (lt-of-le-of-lt (le-trans (le-of-eq (sym e)) (doubled (q * u) n u err (le-times (2 ^ (prec f - 1)) u n (pow-pos (prec f - 1)) small)))
+    (lt-of-le-of-lt (le-trans (le-of-eq (sym e)) (doubled (q * u) n u err (le-trans (times-le (2 ^ (prec f - 1)) u (pow-pos (prec f - 1))) small)))
     (lt-of-lt-of-le (mul-lt-mul-of-pos-right (mul-lt-mul-of-pos-right B (pow-pos (low f))) (pow-pos 1))
     (le-of-eq (whole f den)))) in
     near-of-value (round f s num den) s (q * 2 ^ k) l num den (2 ^ prec f) (pow-pos (low f))

@@ -4,12 +4,12 @@ use mathlib.Core.List.{List, [], _++_}
 use Prim.Native.Nat.{ℕ, _+_, _≤_}
 use native.Mathlib.Omega.{arith}
 use lib.ListN.{length, length-append}
-use lib.Seq.{length-sets}
 use Rattle.refusals.specs.Refusals.{given, refused}
+use Rattle.refusals.proofs.Different.{none as never}
 use Rattle.packer.specs.Writing.{packAnswer, Packs}
 use Rattle.packer.specs.declared.Packed.{Packed}
 use Rattle.packer.specs.declared.Packed.the-variants.{Next, Refused}
-use Rattle.packer.proofs.Writes.{fits-answer, fits-after, stored, none-packed, two-packs}
+use Rattle.packer.proofs.Writes.{fits-answer, after-length, none-packed, two-packs}
 use Rattle.frame.specs.Writes.{Puts, placeOf}
 
 -- where a writer of packer has room, it answers the place after the bytes
@@ -18,7 +18,7 @@ placed (Next place) w e room = rw e w
 placed {bytes} {l} {after} {at} (Refused x) w e room =
     let g : packAnswer bytes l at ≡ given (at + length bytes) = fits-answer bytes l at room in
     let a : refused _ ≡ packAnswer bytes l at = w .answer in
-    absurd (let z : _≡_ {A = ℕ} 0 1 = cc in omega arith)
+    never (cc)
 
 -- the place after the bytes, where they were written
 pub past : {bytes l after : List ℕ} {at next : ℕ} → Packs bytes l at (Next next) after → at + length bytes ≤ length l → next ≡ at + length bytes
@@ -29,8 +29,7 @@ past {bytes} {l} {after} {at} {next} w room =
 
 -- and the buffer is no longer or shorter than it was
 pub as-long : {bytes l after : List ℕ} {at next : ℕ} → Packs bytes l at (Next next) after → at + length bytes ≤ length l → length after ≡ length l
-as-long {bytes} {l} {after} {at} w room =
-    ap length (w .holds ∙ fits-after bytes l at room ∙ sym (stored bytes l at room)) ∙ length-sets l at bytes
+as-long {bytes} {l} {after} {at} w room = ap length (w .holds) ∙ after-length bytes l at room
 
 -- nothing
 pub none : (l : List ℕ) (at : ℕ) → Puts [] l at at l

@@ -1,12 +1,13 @@
--- The kinds and their numbers: a byte below the names has the kind whose number it is, any other is Unknown, 255; and a number tells its kind.
+-- The kinds and their numbers: a byte below the number of names is its kind's number, any other is Unknown, 255; and a number tells its kind.
 -- Assumes nothing.
-use mathlib.Core.Path.{_≡_, refl, sym, ap, _∙_}
-use mathlib.Core.Bool.{Bool, true, false, _&&_}
+use mathlib.Core.Path.{_≡_, refl, sym, _∙_}
+use mathlib.Core.Bool.{Bool, true, _&&_}
 use mathlib.Core.List.{List, [], _∷_}
 use Prim.Native.Nat.{ℕ, zero, suc, _+_, _≤_, _<_}
 use native.Mathlib.Omega.{arith}
 use native.Mathlib.Nat.{add-zero, zero-add, add-suc, suc-add}
 use lib.Dec.{T, eqb, eqb→eq}
+use lib.Ieee.Fits.{and-l, and-r}
 use lib.ListN.{length, getD, List·getD-eq-default}
 use Rattle.kinds.specs.declared.FaultCode.{FaultCode}
 use Rattle.kinds.specs.declared.FaultCode.the-variants as FaultCode
@@ -17,14 +18,6 @@ use Rattle.kinds.specs.declared.QmlHw.the-variants as QmlHw
 use Rattle.kinds.specs.Kinds.{faults, faultOf, faultNumber, hwTypes, hwTypeOf, hwTypeNumber, qmlHws, qmlHwOf, qmlHwNumber}
 
 -- ---- any list of names
-and-left : (p q : Bool) → T (p && q) → T p
-and-left true q t = tt
-and-left false q t = t
-
-and-right : (p q : Bool) → T (p && q) → T q
-and-right true q t = t
-and-right false q t = absurd t
-
 module _ {A : Type 0} where
   -- below the length it does not matter what stands past it
   pub any-default : (names : List A) (n : ℕ) (d e : A) → n < length names → getD names n d ≡ getD names n e
@@ -40,9 +33,9 @@ module _ {A : Type 0} where
   place : (number : A → ℕ) (names : List A) (unknown : A) (k n : ℕ) → T (counted number k names) → n < length names
       → number (getD names n unknown) ≡ k + n
   place number [] unknown k n t h = absurd (omega arith)
-  place number (name ∷ names) unknown k zero t h = eqb→eq (number name) k (and-left (eqb (number name) k) _ t) ∙ sym (add-zero k)
+  place number (name ∷ names) unknown k zero t h = eqb→eq (number name) k (and-l (eqb (number name) k) _ t) ∙ sym (add-zero k)
   place number (name ∷ names) unknown k (suc n) t h =
-      place number names unknown (suc k) n (and-right (eqb (number name) k) _ t) (omega arith) ∙ suc-add k n ∙ sym (add-suc k n)
+      place number names unknown (suc k) n (and-r (eqb (number name) k) _ t) (omega arith) ∙ suc-add k n ∙ sym (add-suc k n)
 
   -- a reading of bytes as kinds, so many of them named, and the kinds' numbers
   pub record Numbered (count : ℕ) (of : ℕ → A) (number : A → ℕ) (unknown : A) : Type 0 where
@@ -61,10 +54,6 @@ module _ {A : Type 0} where
         unnamed = λ n h. List·getD-eq-default names unknown h;
         back = back;
       }
-
-  -- so a number has one kind
-  pub same-kind : {count : ℕ} {of : ℕ → A} {number : A → ℕ} {unknown : A} → Numbered count of number unknown → (a b : A) → number a ≡ number b → a ≡ b
-  same-kind {of = of} numbered a b e = sym (numbered .back a) ∙ ap of e ∙ numbered .back b
 
 -- ---- faults
 fault-back : (kind : FaultCode) → faultOf (faultNumber kind) ≡ kind

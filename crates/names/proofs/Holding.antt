@@ -1,13 +1,13 @@
--- What a name holds: as many bytes as it has room, and what a copy to the front of zeros leaves. Assumes nothing.
-use mathlib.Core.Path.{_≡_, refl}
+-- What a name holds: what a copy to the front of zeros leaves. Assumes nothing.
+use mathlib.Core.Path.{_≡_}
 use mathlib.Core.List.{List, _++_}
-use Prim.Native.Nat.{ℕ, zero, suc, _+_, _-_, _≤_}
+use Prim.Native.Nat.{ℕ, zero, suc, _-_, _≤_}
 use native.Mathlib.Omega.{arith}
-use lib.ListN.{length, take, drop, replicate, length-append, length-drop, length-replicate}
+use lib.ListN.{length, take, drop, replicate, length-drop, length-replicate}
 use lib.Seq.{take-length, length-take-le}
-use Rattle.refusals.specs.Refusals.{Answer, given, refused}
+use Rattle.refusals.specs.Refusals.{Answer, given}
 use Rattle.names.specs.Names.{nulWithin, heldBytes, nameAt}
-use Rattle.names.proofs.Places.{Ends, given-lies}
+use Rattle.names.proofs.Places.{Ends}
 
 -- fewer zeros
 zeros-left : (n k : ℕ) → drop {A = ℕ} k (replicate n 0) ≡ replicate (n - k) 0
@@ -40,18 +40,3 @@ unfolding heldBytes
 copied-held room bytes place next ends e =
     let there : next - place ≤ length (drop place bytes) = simp length-drop (omega arith) in
     rw (take-length, length-take-le (next - place) (drop place bytes) there, e, zeros-left room (next - place))
-
--- a name holds as many bytes as it has room
-held-length
-    : (room : ℕ) (left : List ℕ) (place : ℕ) (answer : Answer ℕ) → nulWithin room left place ≡ answer
-    → length (heldBytes room left place answer) ≡ room
-unfolding heldBytes
-held-length room left place (given next) e =
-    let lies = given-lies room left place next e in
-    let there : next - place ≤ length left = omega arith in
-    simp (length-append, length-take-le (next - place) left there, length-replicate) (omega arith)
-held-length room left place (refused why) e = length-replicate room 0
-
-pub name-length : (room : ℕ) (bytes : List ℕ) (place : ℕ) → length (nameAt room bytes place .bytes) ≡ room
-unfolding nameAt
-name-length room bytes place = held-length room (drop place bytes) place _ refl

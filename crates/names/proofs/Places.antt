@@ -8,13 +8,10 @@ use native.Mathlib.Omega.{arith}
 use lib.Dec.{eqb}
 use lib.ListN.{length, drop, length-drop}
 use Rattle.refusals.specs.Refusals.{Answer, given}
+use Rattle.refusals.proofs.Different.{none}
 use Rattle.names.specs.declared.Scan.{Scan}
 use Rattle.names.specs.declared.Scan.the-variants.{Found}
 use Rattle.names.specs.Names.{scanned, nulWithin, nameAt}
-
--- anything follows where two different answers are one
-pub none : {A : Type 0} → _≡_ {A = ℕ} 0 1 → A
-none z = absurd (omega arith)
 
 -- a choice that gives n gives it on one side
 picked : (b : Bool) (m n : ℕ) (on : Answer ℕ) → cond b (given m) on ≡ given n → (m ≡ n) ⊎ (on ≡ given n)

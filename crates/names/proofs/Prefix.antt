@@ -5,11 +5,10 @@ use mathlib.Core.List.{List, [], _∷_, _++_}
 use Prim.Native.Nat.{ℕ, zero, suc, _+_, _-_, _≤_}
 use native.Mathlib.Omega.{arith}
 use lib.Dec.{eqb}
-use lib.ListN.{length, drop, length-drop}
-use lib.Seq.{take-append-le}
+use lib.ListN.{length, drop}
 use Rattle.refusals.specs.Refusals.{Refusal, Answer, given, refused, incompleteData, invalidFrame}
-use Rattle.names.specs.Names.{nulWithin, heldBytes, nameAt}
-use Rattle.names.proofs.Places.{none, given-lies}
+use Rattle.refusals.proofs.Different.{none}
+use Rattle.names.specs.Names.{nulWithin}
 
 -- a choice whose second side more bytes do not change
 pick-prefix
@@ -28,35 +27,12 @@ nul-prefix (suc room) [] more place known = absurd (known refl)
 nul-prefix (suc room) (byte ∷ left) more place known =
     pick-prefix (eqb byte 0) (given (place + 1)) _ _ (nul-prefix room left more (place + 1)) known
 
--- and its name holds the same
-held-prefix
-    : (room : ℕ) (left more : List ℕ) (place : ℕ) (answer : Answer ℕ) → nulWithin room left place ≡ answer
-    → heldBytes room (left ++ more) place answer ≡ heldBytes room left place answer
-unfolding heldBytes
--- and its name holds the same
-held-prefix room left more place (given next) e =
-    let lies = given-lies room left place next e in
-    let there : next - place ≤ length left = omega arith in
-    rw (take-append-le (next - place) left more there)
--- and its name holds the same
-held-prefix room left more place (refused why) e = refl
-
 -- what is left of joined bytes from any place on
 pub drop-joined : (n : ℕ) (xs ys : List ℕ) → drop n (xs ++ ys) ≡ drop n xs ++ drop (n - length xs) ys
 drop-joined zero [] ys = refl
 drop-joined (suc n) [] ys = let all : suc n - 0 ≡ suc n = omega arith in rw all
 drop-joined zero (x ∷ xs) ys = let all : 0 - length (x ∷ xs) ≡ 0 = omega arith in rw all
 drop-joined (suc n) (x ∷ xs) ys = let less : suc n - length (x ∷ xs) ≡ n - length xs = omega arith in rw less (drop-joined n xs ys)
-
--- a name that is answered is the same name with more bytes
-pub name-prefix
-    : (room : ℕ) (bytes more : List ℕ) (place : ℕ) → (nameAt room bytes place .answer ≡ refused incompleteData → ⊥)
-    → nameAt room (bytes ++ more) place ≡ nameAt room bytes place
-unfolding nameAt
-name-prefix room bytes more place known =
-    let left = drop place bytes in
-    let same = nul-prefix room left (drop (place - length bytes) more) place known in
-    rw (drop-joined place bytes more, same, held-prefix room left (drop (place - length bytes) more) place _ refl)
 
 -- the two refusals of a name have different numbers
 apart : invalidFrame ≡ incompleteData → ⊥
@@ -74,8 +50,3 @@ nul-enough zero left place enough e = apart (cc)
 nul-enough (suc room) [] place enough e = absurd (omega arith)
 nul-enough (suc room) (byte ∷ left) place enough e =
     pick-enough (eqb byte 0) (place + 1) _ (nul-enough room left (place + 1) (omega arith)) e
-
--- the same of a name
-pub name-enough : (room : ℕ) (bytes : List ℕ) (place : ℕ) → place + room ≤ length bytes → nameAt room bytes place .answer ≡ refused incompleteData → ⊥
-unfolding nameAt
-name-enough room bytes place enough = nul-enough room (drop place bytes) place (simp length-drop (omega arith))

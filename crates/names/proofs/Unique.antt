@@ -1,5 +1,5 @@
 -- What a scan and a name answer is the only answer. Assumes nothing.
-use mathlib.Core.Path.{_≡_, refl, ap, _∙_}
+use mathlib.Core.Path.{_≡_, refl, ap}
 use Rattle.refusals.proofs.Unique.{told-apart, readBack, decode-back}
 use Rattle.names.specs.Names.{Name, scanned, named39, named47}
 use Rattle.names.specs.declared.Scan.{Scan}

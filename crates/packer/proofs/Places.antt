@@ -1,14 +1,16 @@
--- A read at a place: what follows from the test that its bytes are there, and a value made from the value read. Assumes nothing.
+-- A read at a place: what follows from the test that its bytes are there, and a value made from the value read; bytes as they stand, and a part lent. Assumes nothing.
 use mathlib.Core.Path.{_≡_, refl, sym, ap, _∙_}
 use mathlib.Core.Bool.{Bool, true, false}
 use mathlib.Core.List.{List, _++_, append-nil}
 use Prim.Native.Nat.{ℕ, _+_, _-_, _≤_, _<_}
+use native.Mathlib.Nat.{le-of-eq}
 use native.Mathlib.Omega.{arith}
 use lib.Dec.{leb}
 use lib.ListN.{length, take, drop, replicate, length-drop}
-use lib.Seq.{length-take-le, take-length}
-use borrow.Author.Tests.{le-leb, lt-leb}
+use lib.Seq.{length-take-le, take-length, take-all}
+use borrow.Author.Tests.{le-leb, lt-leb, leb-true}
 use Rattle.refusals.specs.Refusals.{Answer, Refusal, given, refused, incompleteData}
+use Rattle.refusals.proofs.Different.{none}
 use Rattle.packer.specs.Reading.{readAt, pick, UuidAt, consumeAt, uuidAt}
 use Rattle.packer.specs.declared.Consumed.the-variants.{To, Refused}
 use Rattle.refusals.specs.declared.DecodeError.the-variants.{IncompleteData}
@@ -21,12 +23,23 @@ pub lacking : {A : Type 0} (width : ℕ) (value : A) (s : List ℕ) (at : ℕ) �
 unfolding readAt
 lacking width value s at h = rw (lt-leb (at + width) (length s) h)
 
+-- a read that was answered
+pub read-given : {A : Type 0} (width : ℕ) (value : A) (s : List ℕ) (at : ℕ) (r : A × ℕ) → readAt width value s at ≡ given r
+    → (at + width ≤ length s) × ((value, at + width) ≡ r)
+unfolding readAt
+read-given {A} width value s at r e = go (leb (at + width) (length s)) refl e
+  where
+    go : (b : Bool) → leb (at + width) (length s) ≡ b → pick b (given (value, at + width)) (refused incompleteData) ≡ given r
+        → (at + width ≤ length s) × ((value, at + width) ≡ r)
+    go true t e = (leb-true (at + width) (length s) t, cc)
+    go false t e = none (cc)
+
 -- an answer with its value put through a function
-abbrev pub through : {A B : Type 0} → (A → B) → Answer (A × ℕ) → Answer (B × ℕ)
+abbrev through : {A B : Type 0} → (A → B) → Answer (A × ℕ) → Answer (B × ℕ)
 through f (given (value, next)) = given (f value, next)
 through f (refused r) = refused r
 
-pub read-through : {A B : Type 0} (f : A → B) (width : ℕ) (value : A) (s : List ℕ) (at : ℕ) → through f (readAt width value s at) ≡ readAt width (f value) s at
+read-through : {A B : Type 0} (f : A → B) (width : ℕ) (value : A) (s : List ℕ) (at : ℕ) → through f (readAt width value s at) ≡ readAt width (f value) s at
 unfolding readAt
 read-through f width value s at = go (leb (at + width) (length s))
   where
@@ -43,14 +56,22 @@ pub not-made : {A B : Type 0} (f : A → B) (width : ℕ) (value : A) (s : List 
 not-made f width value s at r h = ap (through f) h ∙ read-through f width value s at
 
 -- ---- bytes as they stand
+pub bytes-got : (width : ℕ) (s : List ℕ) (at : ℕ) → at + width ≤ length s → consumeAt width s at ≡ given (at + width)
+unfolding consumeAt
+bytes-got width s at h = rw (le-leb (at + width) (length s) h)
+
+pub bytes-lacking : (width : ℕ) (s : List ℕ) (at : ℕ) → length s < at + width → consumeAt width s at ≡ refused incompleteData
+unfolding consumeAt
+bytes-lacking width s at h = rw (lt-leb (at + width) (length s) h)
+
 module _ (s : List ℕ) (at : ℕ) where
   pub uuid-lacking : length s < at + 12 → UuidAt s at (record { answer = Refused IncompleteData; bytes = replicate 12 0 })
-  unfolding consumeAt uuidAt
-  uuid-lacking h = record { answer = rw (lt-leb (at + 12) (length s) h); bytes = rw (lt-leb (at + 12) (length s) h) }
+  unfolding uuidAt
+  uuid-lacking h = record { answer = sym (bytes-lacking 12 s at h); bytes = rw (lt-leb (at + 12) (length s) h) }
 
   pub uuid-got : (bytes : List ℕ) → at + 12 ≤ length s → bytes ≡ take 12 (drop at s) → UuidAt s at (record { answer = To (at + 12); bytes = bytes })
-  unfolding consumeAt uuidAt
-  uuid-got bytes h e = record { answer = rw (le-leb (at + 12) (length s) h); bytes = rw (le-leb (at + 12) (length s) h) e }
+  unfolding uuidAt
+  uuid-got bytes h e = record { answer = sym (bytes-got 12 s at h); bytes = rw (le-leb (at + 12) (length s) h) e }
 
   -- what a copy of them over twelve zeros leaves
   pub copied : at + 12 ≤ length s
@@ -60,3 +81,7 @@ module _ (s : List ℕ) (at : ℕ) where
       let d : length (drop at s) ≡ length s - at = length-drop at s in
       let e : at + 12 - at ≡ 12 = omega arith in
       rw (e, take-length, length-take-le 12 (drop at s) (omega arith)) (append-nil (take 12 (drop at s)))
+
+-- the part from a place to the end, as it is lent
+pub lent-whole : (n : ℕ) (s : List ℕ) → take (length s - n) (drop n s) ≡ drop n s
+lent-whole n s = take-all (length s - n) (drop n s) (le-of-eq (length-drop n s))

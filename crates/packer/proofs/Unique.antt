@@ -85,7 +85,7 @@ unfolding writeBack
 packed-back (p.Next next) = refl
 packed-back (p.Refused e) = ap p.Refused (encode-back e)
 
-pub packed-unique : (a b : Packed) → packed a ≡ packed b → a ≡ b
+packed-unique : (a b : Packed) → packed a ≡ packed b → a ≡ b
 packed-unique = told-apart packed (writeBack p.Next p.Refused) packed-back
 
 -- a uuid's answer and its bytes

@@ -1,14 +1,14 @@
 -- Writes of bytes into a slice: the digits of a number from its last on, a write where there is room, and two writes that are one.
 -- Assumes nothing.
-use mathlib.Core.Path.{_≡_, refl, sym, ap, ap₂, _∙_}
+use mathlib.Core.Path.{_≡_, refl, sym, ap, _∙_}
 use mathlib.Core.List.{List, [], _∷_, _++_}
 use Prim.Native.Nat.{ℕ, zero, suc, _+_, _-_, _/_, _%_, _≤_, _<_}
-use native.Mathlib.Nat.{add-zero, add-suc, suc-add, add-assoc, not-suc-le-zero, mod-eq-of-lt}
+use native.Mathlib.Nat.{add-zero, add-suc, suc-add, not-suc-le-zero, mod-eq-of-lt}
 use native.Mathlib.Omega.{arith}
 use lib.ListN.{length, set, length-append}
 use lib.Seq.{sets, sets-eq, length-sets, set-comm}
 use borrow.Author.Tests.{le-leb, lt-leb}
-use Rattle.refusals.specs.Refusals.{Answer, given, refused, bufferTooSmall}
+use Rattle.refusals.specs.Refusals.{given, refused, bufferTooSmall}
 use Rattle.packer.specs.Numbers.{bigEndian}
 use Rattle.packer.specs.Writing.{written, packAnswer, packAfter, Packs}
 use Rattle.packer.specs.declared.Packed.{Packed}
@@ -62,11 +62,11 @@ unfolding packAfter
 fits-after bytes l at h = rw (le-leb (at + length bytes) (length l) h)
 
 -- ---- and one without
-pub full-answer : (bytes l : List ℕ) (at : ℕ) → length l < at + length bytes → packAnswer bytes l at ≡ refused bufferTooSmall
+full-answer : (bytes l : List ℕ) (at : ℕ) → length l < at + length bytes → packAnswer bytes l at ≡ refused bufferTooSmall
 unfolding packAnswer
 full-answer bytes l at h = rw (lt-leb (at + length bytes) (length l) h)
 
-pub full-after : (bytes l : List ℕ) (at : ℕ) → length l < at + length bytes → packAfter bytes l at ≡ l
+full-after : (bytes l : List ℕ) (at : ℕ) → length l < at + length bytes → packAfter bytes l at ≡ l
 unfolding packAfter
 full-after bytes l at h = rw (lt-leb (at + length bytes) (length l) h)
 
@@ -90,18 +90,18 @@ no-digits-packed width n l at h = full-packed (bigEndian width n) l at (omega (a
 as-sets : (bytes l : List ℕ) (at : ℕ) → at + length bytes ≤ length l → packAfter bytes l at ≡ sets l at bytes
 as-sets bytes l at h = fits-after bytes l at h ∙ sym (stored bytes l at h)
 
-after-length : (bytes l : List ℕ) (at : ℕ) → at + length bytes ≤ length l → length (packAfter bytes l at) ≡ length l
+pub after-length : (bytes l : List ℕ) (at : ℕ) → at + length bytes ≤ length l → length (packAfter bytes l at) ≡ length l
 after-length bytes l at h = ap length (as-sets bytes l at h) ∙ length-sets l at bytes
 
 module _ (p q l : List ℕ) (at : ℕ) (h : at + length p ≤ length l) where
   places : at + length p + length q ≡ at + length (p ++ q)
   places = omega (arith, length-append p q)
 
-  pub two-answers : packAnswer q (packAfter p l at) (at + length p) ≡ packAnswer (p ++ q) l at
+  two-answers : packAnswer q (packAfter p l at) (at + length p) ≡ packAnswer (p ++ q) l at
   unfolding packAnswer
   two-answers = rw (after-length p l at h, places)
 
-  pub two-writes : at + length (p ++ q) ≤ length l → packAfter q (packAfter p l at) (at + length p) ≡ packAfter (p ++ q) l at
+  two-writes : at + length (p ++ q) ≤ length l → packAfter q (packAfter p l at) (at + length p) ≡ packAfter (p ++ q) l at
   two-writes k =
       let room : at + length p + length q ≤ length (packAfter p l at) = rw (places, after-length p l at h) k in
       as-sets q (packAfter p l at) (at + length p) room

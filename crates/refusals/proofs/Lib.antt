@@ -1,1 +1,2 @@
+pub mod Different
 pub mod Unique

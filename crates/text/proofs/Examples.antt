@@ -1,4 +1,4 @@
--- The two sides of the table's rows at some of their ends, computed. Assumes nothing.
+-- Sequences on both sides of the table's limits, computed. Assumes nothing.
 use mathlib.Core.Path.{_≡_, refl}
 use mathlib.Core.Bool.{true, false}
 use mathlib.Core.List.{[], _∷_}

@@ -1,17 +1,12 @@
 -- Rows of the table at a place of the bytes: one range, a row that is two rows joined, and the first row that stands. Assumes nothing.
 use mathlib.Core.Path.{_≡_, refl, sym, ap, _∙_}
-use mathlib.Core.Bool.{Bool, true, false, _&&_, cond, and-true, and-assoc, false≢true}
+use mathlib.Core.Bool.{Bool, true, false, _&&_, cond, and-true, and-assoc, and-eq-true-iff, false≢true}
 use mathlib.Core.List.{List, [], _∷_, _++_}
 use Prim.Native.Nat.{ℕ, _+_, _≤_, _<_}
 use native.Mathlib.Omega.{arith}
 use lib.ListN.{length, getD, drop, drop-of-length-le}
 use lib.Seq.{drop-cons, drop-drop}
 use Rattle.text.specs.Utf8.{Range, Row, within, stands, frontLength}
-
--- what both sides of a conjunction say
-pub and-split : (a b : Bool) → (a && b) ≡ true → (a ≡ true) × (b ≡ true)
-and-split true b e = (refl, e)
-and-split false b e = absurd (false≢true e)
 
 pub range-inside : (r : Range) (bytes : List ℕ) (at : ℕ) → at < length bytes → stands (r ∷ []) (drop at bytes) ≡ within r (getD bytes at 0)
 unfolding stands
@@ -51,7 +46,7 @@ unfolding stands
 stands-within [] bytes e = omega arith
 stands-within (r ∷ row) [] e = absurd (false≢true e)
 stands-within (r ∷ row) (byte ∷ bytes) e =
-    let rest = stands-within row bytes (and-split (within r byte) (stands row bytes) e .1) in
+    let rest = stands-within row bytes (and-eq-true-iff (within r byte) (stands row bytes) .0 e .1) in
     omega arith
 
 cond-within : (b : Bool) (m n k : ℕ) → (b ≡ true → m ≤ k) → n ≤ k → cond b m n ≤ k

@@ -1,6 +1,6 @@
 -- `wellFormed` decides the rule `WellFormed`: rows of different lengths never stand at the front of the same bytes. Assumes nothing.
 use mathlib.Core.Path.{_≡_, refl, sym, ap, _∙_}
-use mathlib.Core.Bool.{Bool, true, false, _&&_, _||_, cond, false≢true}
+use mathlib.Core.Bool.{Bool, true, false, _&&_, _||_, cond, and-eq-true-iff, false≢true}
 use mathlib.Core.List.{List, [], _∷_, List·Memᴰ, List·Memᴰ·head, List·Memᴰ·tail, List·Memᴰ·not-nil, List·Memᴰ·cases-cons}
 use mathlib.Core.Logic.{⊎-elim, _⊎_, inl, inr, _↔_}
 use Prim.Native.Nat.{ℕ, zero, suc, _≤_}
@@ -10,7 +10,6 @@ use lib.ListN.{length, drop}
 use lib.Seq.{drop-nil}
 use borrow.Author.Tests.{eqb-true, ltb-true, leb-true}
 use Rattle.text.specs.Utf8.{range, Row, table, within, stands, frontLength, afterFirst, wellFormedAfter, wellFormed, WellFormed, empty, sequence}
-use Rattle.text.proofs.Rows.{and-split}
 use Rattle.text.proofs.Passing.{past-sequence}
 
 -- a row of a list that stands at the front, and its length
@@ -50,7 +49,7 @@ passed-holds more [] e = rw (drop-nil more) empty
 passed-holds (suc more) (byte ∷ bytes) e = passed-holds more bytes e
 passed-holds zero (byte ∷ bytes) e = after-first byte bytes _ refl (λ more h. passed-holds more bytes h) e
 
-pub well-formed-holds : (bytes : List ℕ) → wellFormed bytes ≡ true → WellFormed bytes
+well-formed-holds : (bytes : List ℕ) → wellFormed bytes ≡ true → WellFormed bytes
 unfolding wellFormed
 well-formed-holds bytes e = passed-holds 0 bytes e
 
@@ -67,7 +66,7 @@ or-split false b e = inr e
 within-bounds : (a b byte : ℕ) → within (range a b) byte ≡ true → (a ≤ byte) × (byte ≤ b)
 unfolding within
 within-bounds a b byte e =
-    let both = and-split (leb a byte) (leb byte b) e in
+    let both = and-eq-true-iff (leb a byte) (leb byte b) .0 e in
     (leb-true a byte (both .0), leb-true byte b (both .1))
 
 -- rows that agree and stand at the front of the same bytes are of one length
@@ -77,8 +76,8 @@ one-length [] q bytes e s t = absurd (false≢true e)
 one-length (r ∷ p) [] bytes e s t = absurd (false≢true e)
 one-length (r ∷ p) (u ∷ q) [] e s t = absurd (false≢true s)
 one-length (range a b ∷ p) (range c d ∷ q) (byte ∷ bytes) e s t =
-    let x = within-bounds a b byte (and-split (within (range a b) byte) (stands p bytes) s .0) in
-    let y = within-bounds c d byte (and-split (within (range c d) byte) (stands q bytes) t .0) in
+    let x = within-bounds a b byte (and-eq-true-iff (within (range a b) byte) (stands p bytes) .0 s .0) in
+    let y = within-bounds c d byte (and-eq-true-iff (within (range c d) byte) (stands q bytes) .0 t .0) in
     ⊎-elim (λ same. ap suc (eqb-true (length p) (length q) same))
     (λ apart. ⊎-elim (λ l. absurd (omega (arith, ltb-true b c l))) (λ l. absurd (omega (arith, ltb-true d a l))) (or-split (ltb b c) (ltb d a) apart))
     (or-split (eqb (length p) (length q)) (ltb b c || ltb d a) e)
@@ -91,7 +90,7 @@ every f (row ∷ rows) = f row && every f rows
 every-at : (f : Row → Bool) (rows : List Row) {row : Row} → every f rows ≡ true → List·Memᴰ row rows → f row ≡ true
 every-at f [] e m = absurd (List·Memᴰ·not-nil m)
 every-at f (q ∷ rows) {row} e m =
-    let both = and-split (f q) (every f rows) e in
+    let both = and-eq-true-iff (f q) (every f rows) .0 e in
     ⊎-elim (λ (same : row ≡ q). ap f same ∙ both .0) (λ n. every-at f rows (both .1) n) (List·Memᴰ·cases-cons m)
 
 front-by
@@ -108,7 +107,7 @@ front-length
 unfolding frontLength
 front-length [] row bytes agreed m s = absurd (List·Memᴰ·not-nil m)
 front-length (q ∷ rows) row bytes agreed m s =
-    let both = and-split (agree row q) (every (agree row) rows) agreed in
+    let both = and-eq-true-iff (agree row q) (every (agree row) rows) .0 agreed in
     front-by q row bytes (frontLength rows bytes) (stands q bytes) refl (both .0) s
     (⊎-elim (λ same. inl same) (λ n. inr (front-length rows row bytes (both .1) n s)) (List·Memᴰ·cases-cons m))
 
@@ -122,7 +121,7 @@ row-some [] agreed e = false≢true agreed
 row-some (r ∷ row) agreed e = omega arith
 
 -- what is well-formed by the rule `wellFormed` says yes to
-pub holds-well-formed : {bytes : List ℕ} → WellFormed bytes → wellFormed bytes ≡ true
+holds-well-formed : {bytes : List ℕ} → WellFormed bytes → wellFormed bytes ≡ true
 unfolding wellFormed wellFormedAfter
 holds-well-formed empty = refl
 holds-well-formed (sequence {row} {bytes} member front rest) =

@@ -1,5 +1,5 @@
 -- The contract of a step, and of the method over it: both do the read. What else they take stands in their signatures after the slice and the position, and
--- after self. What a walk has of the step's contract, and how it ends. Assumes nothing.
+-- after self. Then what a walk gets of the step's contract, and how the walk ends. Assumes nothing.
 use mathlib.Core.Path.{_≡_, refl, ap}
 use Prim.Native.Nat.{ℕ}
 use mathlib.Core.List.{List, [], _∷_}

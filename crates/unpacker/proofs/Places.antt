@@ -9,6 +9,7 @@ use lib.ListN.{length, drop, length-drop}
 use borrow.Author.Tests.{eq-eqb, ne-eqb, lt-ltb, le-ltb}
 use Rattle.refusals.specs.Refusals.{Refusal, Answer, given, refused, decodeRefusal, incompleteData}
 use Rattle.refusals.specs.declared.DecodeError.{DecodeError}
+use Rattle.refusals.proofs.Different.{none}
 use Rattle.names.specs.declared.Scan.{Scan}
 use Rattle.names.specs.declared.Scan.the-variants.{Found, Refused}
 use Rattle.names.specs.Names.{Name, scanned, nulWithin, nameAt}
@@ -22,7 +23,7 @@ number-read pos e f = λ i. record { answer = e i; place = (f ∙ ap (λ (a : An
 
 -- a choice between a place and an answer that is refused is refused by the answer
 picked : (b : Bool) (next : ℕ) (on : Answer ℕ) (why : Refusal) → cond b (given next) on ≡ refused why → on ≡ refused why
-picked true next on why e = let z : _≡_ {A = ℕ} 0 1 = cc in absurd (omega arith)
+picked true next on why e = none (cc)
 picked false next on why e = e
 
 -- a scan that is refused, but not for want of bytes, has seen all its room

@@ -37,7 +37,7 @@ use Rattle.unpacker.proofs.Unpacker as T
 use Rattle.unpacker.proofs.Unpacker.Laws as T′
 
 -- 'a, and the struct's type at it
-abbrev pub α : Lft → NamedLft
+abbrev α : Lft → NamedLft
 α κ′ = record { mir = named 1; lft = κ′ }
 
 abbrev pub B : Lft → RattleType

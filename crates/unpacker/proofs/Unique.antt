@@ -19,7 +19,7 @@ use Rattle.unpacker.specs.declared.StepF32.{StepF32}
 use Rattle.unpacker.specs.declared.StepName39.{StepName39}
 
 -- where the map of the answers tells them apart, a read leaves one answer and one Unpacker
-pub reads-unique
+reads-unique
     : {S X : Type 0} (answers : S → X) → ((a b : S) → answers a ≡ answers b → a ≡ b) → (read : List ℕ → ℕ → Read X) (u : Unpacker) (a b : S) (v w : Unpacker)
     → Reads read u (answers a) v → Reads read u (answers b) w → (a ≡ b) × (v ≡ w)
 reads-unique answers told read u a b v w x y = (told a b (x .answers ∙ sym (y .answers)), x .leaves ∙ sym (y .leaves))

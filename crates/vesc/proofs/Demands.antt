@@ -3,8 +3,7 @@ use mathlib.Core.Path.{_≡_, refl, sym, ap, _∙_, subst}
 use mathlib.Core.List.{List}
 use Prim.Native.Nat.{ℕ, _+_, _-_, _≤_, _<_}
 use native.Mathlib.Omega.{arith}
-use lib.ListN.{length, getD, take, drop, length-drop}
-use lib.Seq.{take-all}
+use lib.ListN.{length, getD, take, drop}
 use mathlib.Core.Bool.{Bool, true, false, not}
 use lib.Dec.{T, ltb, ltb→lt, nltb→le}
 use borrow.Author.Tests.{ne-eqb}
@@ -16,7 +15,7 @@ use Rattle.floats.proofs.Reading.{reading-near}
 use Rattle.text.proofs.Rule.{well-formed-iff}
 use Rattle.packer.specs.Numbers.{beAt}
 use Rattle.packer.specs.Reading.{unsignedAt}
-use Rattle.packer.proofs.Places.{got, lacking}
+use Rattle.packer.proofs.Places.{got, lacking, lent-whole}
 use Rattle.frame.specs.Encode.{Encodes}
 use Rattle.frame.proofs.Exact.{refused-writes-nothing}
 use Rattle.frame.proofs.Tests.{answer-too-long, answer-too-small, answer-fits}
@@ -40,11 +39,8 @@ encode-refuses command hops buffer r after w =
     }
 
 module _ (s : List ℕ) where
-  whole : 2 < length s → take (length s - 2) (drop 2 s) ≡ drop 2 s
-  whole h = let d : length (drop 2 s) ≡ length s - 2 = length-drop 2 s in take-all (length s - 2) (drop 2 s) (omega arith)
-
   fields-at : 2 < length s → (a : Answer ℕ) → fieldsEnd (getD s 2 0) (drop 2 s) 1 ≡ a → a ≡ fieldsEnd (getD s 2 0) (take (length s - 2) (drop 2 s)) 1
-  fields-at h a e = sym e ∙ ap (λ (p : List ℕ). fieldsEnd (getD s 2 0) p 1) (sym (whole h))
+  fields-at h a e = sym e ∙ ap (λ (p : List ℕ). fieldsEnd (getD s 2 0) p 1) (sym (lent-whole 2 s))
 
   -- an id of no reply ends the reading of fields
   no-reply : NoneOf replyIds (getD s 2 0) → fieldsEnd (getD s 2 0) (drop 2 s) 1 ≡ refused (unknownPacket (getD s 2 0))

@@ -23,7 +23,7 @@ returns c =
 
 returns-2 : tie.Need-returns-2
 returns-2 c =
-    number-read _ 4 _ _ (c .before .before .before .before .if1 .taken) (c .before .before .before .before .before .before .pre .1) _ _
+    number-read _ 4 _ _ (c .before .before .before .before .if1 .taken) _ _
     (sym (ap unpackedU32 (c .before .number .given .1)) ∙ c .before .before .before .unpack-u32 .ensures)
 
 unpack-u16-requires : tie.Need-unpack-u16-requires
@@ -45,7 +45,7 @@ cast-result c = search needs
 
 returns-4 : tie.Need-returns-4
 returns-4 c =
-    number-read _ 2 _ _ (c .before .before .before .before .if2 .taken) (c .before .before .before .before .before .before .before .pre .1) _ _
+    number-read _ 2 _ _ (c .before .before .before .before .if2 .taken) _ _
     (sym (ap unpackedU16 (c .before .number2 .given .1)) ∙ c .before .before .before .unpack-u16 .ensures)
 
 unpack-u8-requires : tie.Need-unpack-u8-requires
@@ -67,7 +67,7 @@ cast-result-2 c = search needs
 
 returns-6 : tie.Need-returns-6
 returns-6 c =
-    number-read _ 1 _ _ (c .before .before .before .before .if3 .taken) (c .before .before .before .before .before .before .before .before .pre .1) _ _
+    number-read _ 1 _ _ (c .before .before .before .before .if3 .taken) _ _
     (sym (ap unpackedU8 (c .before .number3 .given .1)) ∙ c .before .before .before .unpack-u8 .ensures)
 
 returns-7 : tie.Need-returns-7

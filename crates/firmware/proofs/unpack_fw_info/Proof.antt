@@ -1,5 +1,5 @@
 -- `firmware::unpack_fw_info` meets its contract. Assumes nothing.
-use mathlib.Core.Path.{sym, ap, _∙_}
+use mathlib.Core.Path.{ap, _∙_}
 use Prim.Native.Nat.{ℕ}
 use Rattle.names.specs.Names.{Name, nameAt}
 use Rattle.firmware.specs.Firmware.{fwInfoOf, endOf}

@@ -1,10 +1,8 @@
 -- `firmware::unpack_fw_version` meets its contract. Assumes nothing.
-use mathlib.Core.Path.{_≡_, refl, sym, ap, _∙_}
-use Prim.Native.Nat.{ℕ, _≤_}
+use mathlib.Core.Path.{_∙_}
+use Prim.Native.Nat.{_≤_}
 use borrow.Author.Needs.{needs}
 use lib.ListN.{length}
-use Rattle.names.specs.Names.{Name}
-use Rattle.firmware.specs.Firmware.{fwVersionOf, endOf}
 use Rattle.firmware.proofs.Ends.{end-within, handed-on}
 use Rattle.firmware.proofs.unpack_fw_version.Statement.{statement}
 use Rattle.firmware.proofs.unpack_fw_version.Tie as tie

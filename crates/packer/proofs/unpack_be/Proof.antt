@@ -1,7 +1,5 @@
 -- `packer::unpack_be` meets its contract. Assumes nothing.
-use Prim.Native.Nat.{_+_}
-use mathlib.Core.Path.{sym, ap, _∙_}
-use native.Mathlib.Omega.{arith}
+use mathlib.Core.Path.{sym}
 use borrow.Author.Needs.{needs}
 use Rattle.packer.proofs.Places.{got, lacking}
 use Rattle.packer.proofs.unpack_be.Statement.{statement}

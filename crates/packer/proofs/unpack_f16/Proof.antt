@@ -1,5 +1,5 @@
 -- `packer::unpack_f16` meets its contract. Assumes nothing.
-use mathlib.Core.Path.{_≡_, sym, ap, _∙_}
+use mathlib.Core.Path.{sym, ap, _∙_}
 use lib.IntN.{ℤ}
 use Rattle.floats.specs.Numbers.{readingOf}
 use Rattle.packer.specs.Reading.{unpackedI16}

@@ -1,7 +1,7 @@
 -- `packer::unpack_f32` meets its contract. Assumes nothing.
-use mathlib.Core.Path.{_≡_, sym, ap, _∙_}
+use mathlib.Core.Path.{sym, ap, _∙_}
 use lib.IntN.{ℤ}
-use mir.Syntax.{w16, w32}
+use mir.Syntax.{w32}
 use mir.ValLaws.{toZ-ofZ}
 use Rattle.floats.specs.Numbers.{readingOf}
 use Rattle.packer.specs.Reading.{unpackedI32}

@@ -1,3 +1,4 @@
+-- `packer::unpack_i16` meets its contract: the number read, made signed and narrowed. Assumes nothing.
 use mathlib.Core.Path.{sym, ap, subst, _∙_}
 use Rattle.packer.proofs.Places.{made, not-made}
 use native.Mathlib.Omega.{arith}

@@ -1,3 +1,4 @@
+-- `packer::unpack_u16` meets its contract: the number read, narrowed. Assumes nothing.
 use mathlib.Core.Path.{sym, ap, subst, _∙_}
 use Rattle.packer.specs.Reading.{unpackedU32, NumberBelow}
 use borrow.Author.Needs.{needs}

@@ -1,7 +1,7 @@
 -- `records::signed` meets its contract. Assumes nothing.
 use Prim.Native.Nat.{_-_}
 use native.Mathlib.Omega.{arith}
-use Rattle.packer.proofs.Complement.{down-fits, upper, lower}
+use Rattle.packer.proofs.Complement.{down-fits, from-zero, below-zero}
 use borrow.Author.Needs.{needs}
 use Rattle.records.proofs.signed.Statement.{statement}
 use Rattle.records.proofs.signed.Tie as tie
@@ -10,7 +10,7 @@ cast-result : tie.Need-cast-result
 cast-result c = search needs
 
 returns : tie.Need-returns
-returns c = upper _ _ (c .if1 .taken) (c .before .pre .0)
+returns c = from-zero _ _ (c .if1 .taken) (c .before .pre .0)
 
 sub-below : tie.Need-sub-below
 sub-below c = search needs
@@ -25,7 +25,7 @@ sub-result : tie.Need-sub-result
 sub-result c = down-fits (c .before .args .half - 1 - (c .before .args .number - c .before .args .half)) (omega arith)
 
 returns-2 : tie.Need-returns-2
-returns-2 c = lower _ _ (c .if1 .left) (c .before .pre .1) (c .before .pre .0)
+returns-2 c = below-zero _ _ (c .if1 .left) (c .before .pre .1) (c .before .pre .0)
 
 pub signed-spec : {M : Type 1} → statement M
 signed-spec =
