@@ -1,6 +1,6 @@
 -- Reads at a place: what is there is given, and it stays the same with more bytes, and in those bytes alone. Assumes nothing.
 use mathlib.Core.Path.{_≡_, refl, ap}
-use mathlib.Core.Bool.{Bool, true, false}
+use mathlib.Core.Bool.{Bool, true, false, cond}
 use mathlib.Core.List.{List, _++_}
 use Prim.Native.Nat.{ℕ, zero, suc, _+_, _≤_, _<_}
 use native.Mathlib.Omega.{arith}
@@ -10,7 +10,7 @@ use lib.Seq.{getD-take, take-append-le, drop-append-le}
 use borrow.Author.Tests.{le-leb, lt-leb, leb-true, lt-ltb, le-ltb, ltb-true}
 use Rattle.refusals.specs.Refusals.{Answer, given, refused, incompleteData}
 use Rattle.packer.specs.Numbers.{beAt}
-use Rattle.packer.specs.Reading.{pick, readAt, unsignedAt, consumeAt, consumed}
+use Rattle.packer.specs.Reading.{readAt, unsignedAt, consumeAt, consumed}
 use Rattle.packer.specs.declared.Consumed.{Consumed}
 use Rattle.packer.specs.declared.Consumed.the-variants.{To}
 use Rattle.packer.proofs.Places.{got, bytes-got, bytes-lacking}
@@ -22,7 +22,7 @@ use Rattle.envelope.proofs.Answers.{Known, Kept, known-given}
 -- ---- what a read's test decides
 
 abbrev Read : {A : Type 0} → Bool → A → Answer A
-Read there value = pick there (given value) (refused incompleteData)
+Read there value = cond there (given value) (refused incompleteData)
 
 read-kept
     : {A : Type 0} (there more : Bool) (value after : A) → (there ≡ true → (more ≡ true) × (after ≡ value)) → Known (Read there value)

@@ -9,7 +9,7 @@ use lib.ListN.{length, take, drop, length-drop}
 use lib.Seq.{take-nil}
 use Rattle.refusals.specs.Refusals.{Answer, given, refused, unknownPacket}
 use Rattle.packer.specs.Numbers.{beAt}
-use Rattle.packer.specs.Reading.{pick, unsignedAt, consumeAt}
+use Rattle.packer.specs.Reading.{unsignedAt, consumeAt}
 use Rattle.packer.proofs.Places.{got, read-given, bytes-got}
 use Rattle.names.specs.Names.{nulWithin}
 use Rattle.refusals.proofs.Different.{none}
@@ -66,9 +66,9 @@ reads-wider v more p =
     }
 
 -- one reader or another
-pub reads-pick : {w : ℕ} (b : Bool) {r q : Reader} → Reads w r → Reads w q → Reads w (λ part at. pick b (r part at) (q part at))
-reads-pick true p o = p
-reads-pick false p o = o
+pub reads-cond : {w : ℕ} (b : Bool) {r q : Reader} → Reads w r → Reads w q → Reads w (λ part at. cond b (r part at) (q part at))
+reads-cond true p o = p
+reads-cond false p o = o
 
 -- so many bytes
 pub reads-bytes : (w : ℕ) → Reads w (consumeAt w)

@@ -1,11 +1,12 @@
 -- The seven replies' readers, a term for each: what a reader of fields promises, and how many bytes it reads at the most. Assumes nothing.
+use mathlib.Core.Bool.{cond}
 use Prim.Native.Nat.{ℕ}
 use native.Mathlib.Omega.{arith}
 use lib.Dec.{eqb}
 use Rattle.fields.specs.Fields.{valuesTable, setupTable, statsTable}
 use Rattle.fields.proofs.Longest.{values-most, setup-most, stats-most, values-all}
 use Rattle.envelope.specs.Envelope.{masked, getValues, fwVersion, fwInfo, fieldsEnd}
-use Rattle.envelope.proofs.Readers.{Reads, reads-nothing, reads-unknown, reads-wider, reads-pick, reads-bytes, reads-then, reads-name, reads-masked}
+use Rattle.envelope.proofs.Readers.{Reads, reads-nothing, reads-unknown, reads-wider, reads-cond, reads-bytes, reads-then, reads-name, reads-masked}
 
 pub reads-fw-version : Reads 104 fwVersion
 unfolding fwVersion
@@ -33,11 +34,11 @@ reads-fw-info = reads-then (reads-then (reads-bytes 3) (reads-name 47)) (reads-n
 pub reads-fields : (id : ℕ) → Reads 104 (fieldsEnd id)
 unfolding fieldsEnd
 reads-fields id =
-    reads-pick (eqb id 0) reads-fw-version
-    (reads-pick (eqb id 4) (reads-wider 104 (omega arith) reads-values)
-    (reads-pick (eqb id 50) (reads-wider 104 (omega arith) reads-selective)
-    (reads-pick (eqb id 51) (reads-wider 104 (omega arith) reads-setup)
-    (reads-pick (eqb id 128) (reads-wider 104 (omega arith) reads-stats)
-    (reads-pick (eqb id 129) (reads-wider 104 (omega arith) reads-nothing)
-    (reads-pick (eqb id 157) (reads-wider 104 (omega arith) reads-fw-info)
+    reads-cond (eqb id 0) reads-fw-version
+    (reads-cond (eqb id 4) (reads-wider 104 (omega arith) reads-values)
+    (reads-cond (eqb id 50) (reads-wider 104 (omega arith) reads-selective)
+    (reads-cond (eqb id 51) (reads-wider 104 (omega arith) reads-setup)
+    (reads-cond (eqb id 128) (reads-wider 104 (omega arith) reads-stats)
+    (reads-cond (eqb id 129) (reads-wider 104 (omega arith) reads-nothing)
+    (reads-cond (eqb id 157) (reads-wider 104 (omega arith) reads-fw-info)
     (reads-wider 104 (omega arith) (reads-unknown id))))))))

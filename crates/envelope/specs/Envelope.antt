@@ -1,13 +1,13 @@
 -- The envelope, document 01: what a list of bytes is judged to be. "`decode` reads from the left and answers at the first trouble." The order is
 -- that of its section, the fields are those of "Reply fields". Assumes nothing.
 use Prim.Native.Nat.{ℕ, _+_, _-_, _^_}
-use mathlib.Core.Bool.{Bool, true, false}
+use mathlib.Core.Bool.{Bool, true, false, cond}
 use mathlib.Core.List.{List}
 use lib.Dec.{eqb, ltb}
 use lib.ListN.{length, getD, take, drop}
 use Rattle.refusals.specs.Refusals.{Refusal, Answer, given, refused, decodeRefusal, incompleteData, invalidFrame, unknownPacket, checksumMismatch}
 use Rattle.checksum.specs.Xmodem.{checksumOf}
-use Rattle.packer.specs.Reading.{pick, unsignedAt, consumeAt}
+use Rattle.packer.specs.Reading.{unsignedAt, consumeAt}
 use Rattle.names.specs.Names.{nulWithin}
 use Rattle.fields.specs.Fields.{Field, valuesTable, setupTable, statsTable, spanOf}
 use Rattle.envelope.specs.declared.Judged.{Judged}
@@ -32,7 +32,7 @@ unless false why next = refused why
 
 -- "A read past the end of the slice is 1."
 unfoldable pub byteAt : List ℕ → ℕ → Answer ℕ
-byteAt s at = pick (ltb at (length s)) (given (getD s at 0)) (refused incompleteData)
+byteAt s at = cond (ltb at (length s)) (given (getD s at 0)) (refused incompleteData)
 
 -- 2. The fields. A reader gets the payload part, which is the bytes from byte 2 on, and a place in it; it answers the place after what it read.
 
@@ -67,13 +67,13 @@ fwInfo = consumeAt 3 then name 47 then name 47
 -- "id (3 if not one of the seven replies, known command ids included); the fields by the tables below"
 unfoldable pub fieldsEnd : ℕ → Reader
 fieldsEnd id part at =
-    pick (eqb id 0) (fwVersion part at)
-    (pick (eqb id 4) (getValues part at)
-    (pick (eqb id 50) (masked valuesTable part at)
-    (pick (eqb id 51) (masked setupTable part at)
-    (pick (eqb id 128) (masked statsTable part at)
-    (pick (eqb id 129) (given at)
-    (pick (eqb id 157) (fwInfo part at)
+    cond (eqb id 0) (fwVersion part at)
+    (cond (eqb id 4) (getValues part at)
+    (cond (eqb id 50) (masked valuesTable part at)
+    (cond (eqb id 51) (masked setupTable part at)
+    (cond (eqb id 128) (masked statsTable part at)
+    (cond (eqb id 129) (given at)
+    (cond (eqb id 157) (fwInfo part at)
     (refused (unknownPacket id))))))))
 
 -- 3. The frame: "A frame is 2, length n, n payload bytes, the checksum of the payload high byte first, then 3: n + 5 bytes."

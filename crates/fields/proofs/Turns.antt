@@ -1,6 +1,6 @@
 -- One turn of a walk: what stands in a row of the code's table, and what is left of the fields after it. Assumes nothing.
 use mathlib.Core.Path.{_≡_, refl}
-use mathlib.Core.Bool.{Bool, true, false}
+use mathlib.Core.Bool.{Bool, true, false, cond}
 use mathlib.Core.List.{List, [], _∷_}
 use Prim.Native.Nat.{ℕ, zero, suc, _+_, _/_, _%_, _^_, _≤_, _<_}
 use native.Mathlib.Omega.{arith}
@@ -11,26 +11,25 @@ use lib.Ieee.Fits.{and-l, and-r}
 use lib.ListN.{length, getD, drop, set, drop-of-length-le}
 use lib.Seq.{sets}
 use Rattle.packer.specs.Numbers.{beAt}
-use Rattle.packer.specs.Reading.{pick}
 use Rattle.fields.specs.Fields.{h, b, u, widthOf, field, hasBit, takes, spanOf, rawsAt}
 use Rattle.fields.specs.Rows.{kindBy, fieldsBy, rowsFit, Narrow, Rows}
 use Rattle.fields.proofs.Answers.{fields-length}
 
 -- ---- a row
-narrow-kind : (p q : Bool) (width : ℕ) → widthOf (pick p b (pick q (h 1) u)) ≡ width → Narrow width
+narrow-kind : (p q : Bool) (width : ℕ) → widthOf (cond p b (cond q (h 1) u)) ≡ width → Narrow width
 narrow-kind true q width e = record { most = omega arith; not-three = λ f. omega arith }
 narrow-kind false true width e = record { most = omega arith; not-three = λ f. omega arith }
 narrow-kind false false width e = record { most = omega arith; not-three = λ f. omega arith }
 
-narrow-taken : (p : Bool) (width taken : ℕ) → Narrow width → taken ≡ pick p width 0 → Narrow taken
+narrow-taken : (p : Bool) (width taken : ℕ) → Narrow width → taken ≡ cond p width 0 → Narrow taken
 narrow-taken true width taken n e = record { most = omega arith; not-three = λ f. omega arith }
 narrow-taken false width taken n e = record { most = omega arith; not-three = λ f. omega arith }
 
-pub bit-set : (mask bit width : ℕ) → mask / 2 ^ bit % 2 ≡ 1 → width ≡ pick (hasBit mask bit) width 0
+pub bit-set : (mask bit width : ℕ) → mask / 2 ^ bit % 2 ≡ 1 → width ≡ cond (hasBit mask bit) width 0
 unfolding hasBit
 bit-set mask bit width e = rw (eq-eqb (mask / 2 ^ bit % 2) 1 e)
 
-pub bit-clear : (mask bit width : ℕ) → (mask / 2 ^ bit % 2 ≡ 1 → ⊥) → 0 ≡ pick (hasBit mask bit) width 0
+pub bit-clear : (mask bit width : ℕ) → (mask / 2 ^ bit % 2 ≡ 1 → ⊥) → 0 ≡ cond (hasBit mask bit) width 0
 unfolding hasBit
 bit-clear mask bit width e = rw (ne-eqb (mask / 2 ^ bit % 2) 1 e)
 
@@ -49,22 +48,22 @@ row-at (row ∷ rows) (suc k) t l =
 
 -- ---- the walk's needs at the row k
 module _ {rows : List ℕ} (good : Rows rows) (mask k : ℕ) (l : k < length rows) where
-  pub narrow : (taken : ℕ) → taken ≡ pick (hasBit mask (getD rows k 0 / 8)) (getD rows k 0 % 8) 0 → Narrow taken
+  pub narrow : (taken : ℕ) → taken ≡ cond (hasBit mask (getD rows k 0 / 8)) (getD rows k 0 % 8) 0 → Narrow taken
   narrow taken e = narrow-taken (hasBit mask (getD rows k 0 / 8)) _ taken (narrow-kind (eqb (getD rows k 0 % 8) 1) (eqb (getD rows k 0 % 8) 2) _ (row-at rows k (good .fit) l .width)) e
 
   -- what the fields from here on take
-  pub span-next : (taken : ℕ) → taken ≡ pick (hasBit mask (getD rows k 0 / 8)) (getD rows k 0 % 8) 0
+  pub span-next : (taken : ℕ) → taken ≡ cond (hasBit mask (getD rows k 0 / 8)) (getD rows k 0 % 8) 0
       → spanOf (drop k (fieldsBy rows)) mask ≡ taken + spanOf (drop (k + 1) (fieldsBy rows)) mask
   unfolding spanOf takes
   span-next taken e = rw (add-one, row-at rows k (good .fit) l .next, row-at rows k (good .fit) l .width, e)
 
-  raws-next : (s : List ℕ) (at taken : ℕ) → taken ≡ pick (hasBit mask (getD rows k 0 / 8)) (getD rows k 0 % 8) 0
+  raws-next : (s : List ℕ) (at taken : ℕ) → taken ≡ cond (hasBit mask (getD rows k 0 / 8)) (getD rows k 0 % 8) 0
       → rawsAt (drop k (fieldsBy rows)) mask s at ≡ beAt s at taken ∷ rawsAt (drop (k + 1) (fieldsBy rows)) mask s (at + taken)
   unfolding rawsAt takes
   raws-next s at taken e = rw (add-one, row-at rows k (good .fit) l .next, row-at rows k (good .fit) l .width, e)
 
   -- and their numbers: with this one stored, those from the next row on are what is left to store
-  pub stored-next : (s raw : List ℕ) (at taken number : ℕ) → taken ≡ pick (hasBit mask (getD rows k 0 / 8)) (getD rows k 0 % 8) 0 → number ≡ beAt s at taken
+  pub stored-next : (s raw : List ℕ) (at taken number : ℕ) → taken ≡ cond (hasBit mask (getD rows k 0 / 8)) (getD rows k 0 % 8) 0 → number ≡ beAt s at taken
       → sets (set raw k number) (k + 1) (rawsAt (drop (k + 1) (fieldsBy rows)) mask s (at + taken)) ≡ sets raw k (rawsAt (drop k (fieldsBy rows)) mask s at)
   stored-next s raw at taken number e n = rw (raws-next s at taken e, n, add-one)
 

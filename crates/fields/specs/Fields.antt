@@ -1,10 +1,9 @@
 -- The masked replies, document 01, "Reply fields": the field tables, once, and the one walk over a table. Assumes nothing.
 use Prim.Native.Nat.{ℕ, _+_, _/_, _%_, _^_}
-use mathlib.Core.Bool.{Bool}
+use mathlib.Core.Bool.{Bool, cond}
 use mathlib.Core.List.{List, [], _∷_}
 use lib.Dec.{eqb}
 use Rattle.packer.specs.Numbers.{beAt}
-use Rattle.packer.specs.Reading.{pick}
 
 -- "hS is a signed 16-bit number over S, wS a signed 32-bit number over S, i and u signed and unsigned 32-bit, b a byte, F a binary32 by its bits."
 pub data Kind : Type 0 where
@@ -110,7 +109,7 @@ hasBit mask bit = eqb (mask / 2 ^ bit % 2) 1
 
 -- the bytes that a field takes under a mask: none where its bit is not set
 unfoldable pub takes : ℕ → Field → ℕ
-takes mask f = pick (hasBit mask (f .bit)) (widthOf (f .kind)) 0
+takes mask f = cond (hasBit mask (f .bit)) (widthOf (f .kind)) 0
 
 -- the bytes that a table's fields take under a mask: "Other mask bits consume nothing."
 unfoldable pub spanOf : List Field → ℕ → ℕ

@@ -2,16 +2,15 @@
 -- that these are the fields of document 01's tables, as far as a walk sees them, is computed. Assumes nothing.
 use mathlib.Core.Path.{_≡_}
 use Prim.Native.Nat.{ℕ, _/_, _%_, _≤_}
-use mathlib.Core.Bool.{Bool, true, _&&_}
+use mathlib.Core.Bool.{Bool, true, _&&_, cond}
 use mathlib.Core.List.{List, [], _∷_}
 use lib.Dec.{T, eqb}
 use lib.ListN.{length}
-use Rattle.packer.specs.Reading.{pick}
 use Rattle.fields.specs.Fields.{Kind, b, h, u, widthOf, Field, field}
 
 -- a number of so many bytes: of a kind, a walk sees the width alone
 abbrev pub kindBy : ℕ → Kind
-kindBy width = pick (eqb width 1) b (pick (eqb width 2) (h 1) u)
+kindBy width = cond (eqb width 1) b (cond (eqb width 2) (h 1) u)
 
 -- the fields that rows stand for: a row is 8 times the bit, and the width
 unfoldable pub fieldsBy : List ℕ → List Field

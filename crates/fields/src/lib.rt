@@ -1,11 +1,11 @@
 // The raw numbers of the masked replies: one walk over a table of bits and widths, whichever reply it
 // is. Ports the field reading of `unpack_get_values_selective`, `unpack_get_values_setup_selective`
 // and `unpack_get_stats` of src/command.rs. Assumes nothing.
+ghost use mathlib.Core.Bool.{cond};
 ghost use mathlib.Core.Path.{_≡_};
 ghost use Prim.Native.Nat.{_+_, _/_, _%_, _≤_};
 ghost use lib.ListN.{length};
 ghost use Rattle.packer.specs.Numbers.{beAt};
-ghost use Rattle.packer.specs.Reading.{pick};
 ghost use Rattle.fields.specs.Fields.{hasBit, spanOf};
 ghost use Rattle.fields.specs.Sorts.{tableOf};
 ghost use Rattle.fields.specs.Reading.{FieldsAt, noFields};
@@ -100,7 +100,7 @@ const STATS_TABLE: [u8; 11] = [
 
 // The bytes that a row's field takes under a mask.
 fn takes(mask: u32, row: u8) -> usize
-    ensures { λ r. ⌜ r ≡ pick (hasBit mask (row / 8)) (row % 8) 0 ⌝ }
+    ensures { λ r. ⌜ r ≡ cond (hasBit mask (row / 8)) (row % 8) 0 ⌝ }
 {
     if (mask >> (row / 8)) % 2 == 1 {
         (row % 8) as usize

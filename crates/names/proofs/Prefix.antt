@@ -11,11 +11,11 @@ use Rattle.refusals.proofs.Different.{none}
 use Rattle.names.specs.Names.{nulWithin}
 
 -- a choice whose second side more bytes do not change
-pick-prefix
+cond-prefix
     : (b : Bool) (here on more : Answer ℕ) → ((on ≡ refused incompleteData → ⊥) → more ≡ on)
     → (cond b here on ≡ refused incompleteData → ⊥) → cond b here more ≡ cond b here on
-pick-prefix true here on more same known = refl
-pick-prefix false here on more same known = same known
+cond-prefix true here on more same known = refl
+cond-prefix false here on more same known = same known
 
 -- a scan that is answered is answered the same with more bytes
 pub nul-prefix
@@ -25,7 +25,7 @@ unfolding nulWithin
 nul-prefix zero left more place known = refl
 nul-prefix (suc room) [] more place known = absurd (known refl)
 nul-prefix (suc room) (byte ∷ left) more place known =
-    pick-prefix (eqb byte 0) (given (place + 1)) _ _ (nul-prefix room left more (place + 1)) known
+    cond-prefix (eqb byte 0) (given (place + 1)) _ _ (nul-prefix room left more (place + 1)) known
 
 -- what is left of joined bytes from any place on
 pub drop-joined : (n : ℕ) (xs ys : List ℕ) → drop n (xs ++ ys) ≡ drop n xs ++ drop (n - length xs) ys
@@ -39,9 +39,9 @@ apart : invalidFrame ≡ incompleteData → ⊥
 apart e = let z : _≡_ {A = ℕ} 2 1 = ap (λ (r : Refusal). r .number) e in omega arith
 
 -- a choice between a place and an answer that is not IncompleteData is not
-pick-enough : (b : Bool) (next : ℕ) (on : Answer ℕ) → (on ≡ refused incompleteData → ⊥) → cond b (given next) on ≡ refused incompleteData → ⊥
-pick-enough true next on enough e = none (cc)
-pick-enough false next on enough e = enough e
+cond-enough : (b : Bool) (next : ℕ) (on : Answer ℕ) → (on ≡ refused incompleteData → ⊥) → cond b (given next) on ≡ refused incompleteData → ⊥
+cond-enough true next on enough e = none (cc)
+cond-enough false next on enough e = enough e
 
 -- where as many bytes are left as there is room, no scan is IncompleteData
 pub nul-enough : (room : ℕ) (left : List ℕ) (place : ℕ) → room ≤ length left → nulWithin room left place ≡ refused incompleteData → ⊥
@@ -49,4 +49,4 @@ unfolding nulWithin
 nul-enough zero left place enough e = apart (cc)
 nul-enough (suc room) [] place enough e = absurd (omega arith)
 nul-enough (suc room) (byte ∷ left) place enough e =
-    pick-enough (eqb byte 0) (place + 1) _ (nul-enough room left (place + 1) (omega arith)) e
+    cond-enough (eqb byte 0) (place + 1) _ (nul-enough room left (place + 1) (omega arith)) e

@@ -1,6 +1,6 @@
 -- Two's complement, as the machine works it out. Assumes nothing.
 use mathlib.Core.Path.{_≡_, refl, sym, ap, _∙_}
-use mathlib.Core.Bool.{Bool, true, false, not, false≢true}
+use mathlib.Core.Bool.{Bool, true, false, not, false≢true, cond}
 use Prim.Native.Nat.{ℕ, zero, suc, _+_, _-_, _*_, _≤_, _<_, _^_}
 use native.Mathlib.Omega.{arith}
 use lib.Dec.{T, ltb, ltb→lt, nltb→le}
@@ -10,7 +10,7 @@ use borrow.Author.Tests.{lt-ltb, le-ltb}
 use mir.Val.{SFits, toZ, ofZ, hbits}
 use mir.Syntax.{w16, w32}
 use mir.ValLaws.{toZ-pos, toZ-ofZ}
-use Rattle.packer.specs.Numbers.{signedOf, unsignedOf, pickZ}
+use Rattle.packer.specs.Numbers.{signedOf, unsignedOf}
 
 minus-one : (n : ℕ) → negsuc 0 -ℤ pos n ≡ negsuc n
 minus-one zero = refl
@@ -41,7 +41,7 @@ mag-below-half : (half n : ℕ) → n < half * 2 → mag (signedOf (half * 2) n)
 unfolding signedOf
 mag-below-half half n h = go (ltb (n * 2) (half * 2)) (ltb→lt (n * 2) (half * 2)) (nltb→le (n * 2) (half * 2))
   where
-    go : (b : Bool) → (T b → n * 2 < half * 2) → (T (not b) → half * 2 ≤ n * 2) → mag (pickZ b (pos n) (negsuc (half * 2 - suc n))) < half
+    go : (b : Bool) → (T b → n * 2 < half * 2) → (T (not b) → half * 2 ≤ n * 2) → mag (cond b (pos n) (negsuc (half * 2 - suc n))) < half
     go true k l = let m : n * 2 < half * 2 = k tt in omega arith
     go false k l = let m : half * 2 ≤ n * 2 = l tt in omega arith
 

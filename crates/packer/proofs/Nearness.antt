@@ -1,6 +1,6 @@
 -- What `unpack_f32` and `unpack_f16` read is near the number over the scale: every raw value, every scale of the tables. Assumes nothing.
 use mathlib.Core.Path.{_≡_, sym, ap, _∙_, subst}
-use mathlib.Core.Bool.{Bool, true, false, not}
+use mathlib.Core.Bool.{Bool, true, false, not, cond}
 use mathlib.Core.List.{List}
 use Prim.Native.Nat.{ℕ, suc, _-_, _*_, _^_, _≤_, _<_}
 use native.Mathlib.Omega.{arith}
@@ -11,7 +11,7 @@ use Rattle.floats.specs.Near.{Near, negative, size, nearness}
 use Rattle.floats.specs.Numbers.{readingOf}
 use Rattle.floats.proofs.Reading.{reading-near}
 use Rattle.floats.proofs.Scales.{scales}
-use Rattle.packer.specs.Numbers.{beAt, signedOf, pickZ}
+use Rattle.packer.specs.Numbers.{beAt, signedOf}
 use Rattle.packer.specs.Reading.{scaledAt, unpackedF32}
 use Rattle.packer.specs.Nearness.{rawAt, ResultNear}
 use Rattle.packer.proofs.Places.{read-given}
@@ -23,7 +23,7 @@ signed-size : (all n : ℕ) → all ≤ 2 ^ 32 → size (signedOf all n) ≤ 2 ^
 unfolding signedOf
 signed-size all n h = go (ltb (n * 2) all) (ltb→lt (n * 2) all) (nltb→le (n * 2) all)
   where
-    go : (b : Bool) → (T b → n * 2 < all) → (T (not b) → all ≤ n * 2) → size (pickZ b (pos n) (negsuc (all - suc n))) ≤ 2 ^ 31
+    go : (b : Bool) → (T b → n * 2 < all) → (T (not b) → all ≤ n * 2) → size (cond b (pos n) (negsuc (all - suc n))) ≤ 2 ^ 31
     go true k l = let m : n * 2 < all = k tt in omega arith
     go false k l = let m : all ≤ n * 2 = l tt in omega arith
 

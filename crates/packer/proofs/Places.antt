@@ -1,6 +1,6 @@
 -- A read at a place: what follows from the test that its bytes are there, and a value made from the value read; bytes as they stand, and a part lent. Assumes nothing.
 use mathlib.Core.Path.{_≡_, refl, sym, ap, _∙_}
-use mathlib.Core.Bool.{Bool, true, false}
+use mathlib.Core.Bool.{Bool, true, false, cond}
 use mathlib.Core.List.{List, _++_, append-nil}
 use Prim.Native.Nat.{ℕ, _+_, _-_, _≤_, _<_}
 use native.Mathlib.Nat.{le-of-eq}
@@ -11,7 +11,7 @@ use lib.Seq.{length-take-le, take-length, take-all}
 use borrow.Author.Tests.{le-leb, lt-leb, leb-true}
 use Rattle.refusals.specs.Refusals.{Answer, Refusal, given, refused, incompleteData}
 use Rattle.refusals.proofs.Different.{none}
-use Rattle.packer.specs.Reading.{readAt, pick, UuidAt, consumeAt, uuidAt}
+use Rattle.packer.specs.Reading.{readAt, UuidAt, consumeAt, uuidAt}
 use Rattle.packer.specs.declared.Consumed.the-variants.{To, Refused}
 use Rattle.refusals.specs.declared.DecodeError.the-variants.{IncompleteData}
 
@@ -29,7 +29,7 @@ pub read-given : {A : Type 0} (width : ℕ) (value : A) (s : List ℕ) (at : ℕ
 unfolding readAt
 read-given {A} width value s at r e = go (leb (at + width) (length s)) refl e
   where
-    go : (b : Bool) → leb (at + width) (length s) ≡ b → pick b (given (value, at + width)) (refused incompleteData) ≡ given r
+    go : (b : Bool) → leb (at + width) (length s) ≡ b → cond b (given (value, at + width)) (refused incompleteData) ≡ given r
         → (at + width ≤ length s) × ((value, at + width) ≡ r)
     go true t e = (leb-true (at + width) (length s) t, cc)
     go false t e = none (cc)
@@ -43,7 +43,7 @@ read-through : {A B : Type 0} (f : A → B) (width : ℕ) (value : A) (s : List 
 unfolding readAt
 read-through f width value s at = go (leb (at + width) (length s))
   where
-    go : (b : Bool) → through f (pick b (given (value, at + width)) (refused incompleteData)) ≡ pick b (given (f value, at + width)) (refused incompleteData)
+    go : (b : Bool) → through f (cond b (given (value, at + width)) (refused incompleteData)) ≡ cond b (given (f value, at + width)) (refused incompleteData)
     go true = refl
     go false = refl
 

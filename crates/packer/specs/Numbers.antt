@@ -1,7 +1,7 @@
 -- Numbers as bytes, document 01, "The envelope": "All numbers are big-endian." Each definition is over the width, in bytes.
 -- Assumes nothing.
 use Prim.Native.Nat.{ℕ, zero, suc, _+_, _*_, _-_, _/_, _%_}
-use mathlib.Core.Bool.{Bool, true, false}
+use mathlib.Core.Bool.{cond}
 use mathlib.Core.List.{List, [], _∷_, _++_}
 use lib.Dec.{ltb}
 use lib.IntN.{ℤ, pos, negsuc}
@@ -17,13 +17,9 @@ unfoldable pub bigEndian : ℕ → ℕ → List ℕ
 bigEndian zero n = []
 bigEndian (suc width) n = bigEndian width (n / 256) ++ (n % 256 ∷ [])
 
-abbrev pub pickZ : Bool → ℤ → ℤ → ℤ
-pickZ true a b = a
-pickZ false a b = b
-
 -- two's complement among so many numbers (256 ^ width): one from the middle on stands for itself less all of them
 unfoldable pub signedOf : ℕ → ℕ → ℤ
-signedOf all n = pickZ (ltb (n * 2) all) (pos n) (negsuc (all - suc n))
+signedOf all n = cond (ltb (n * 2) all) (pos n) (negsuc (all - suc n))
 
 -- and back
 unfoldable pub unsignedOf : ℕ → ℤ → ℕ

@@ -2,7 +2,7 @@
 -- Promises about the enums that the readers answer go through the maps to `Answer` below. Assumes nothing.
 use mathlib.Core.Path.{_≡_}
 use Prim.Native.Nat.{ℕ, _+_, _^_, _<_}
-use mathlib.Core.Bool.{Bool, true, false}
+use mathlib.Core.Bool.{cond}
 use mathlib.Core.List.{List}
 use lib.Dec.{leb}
 use lib.IntN.{ℤ}
@@ -28,13 +28,9 @@ use Rattle.packer.specs.declared.Consumed.{Consumed}
 use Rattle.packer.specs.declared.Consumed.the-variants as c
 use Rattle.packer.specs.declared.UnpackedUuid.{UnpackedUuid}
 
-abbrev pub pick : {A : Type 0} → Bool → A → A → A
-pick true a b = a
-pick false a b = b
-
 -- what reading a value of so many bytes at a place answers: the value and the place after it, or IncompleteData
 unfoldable pub readAt : {A : Type 0} → ℕ → A → List ℕ → ℕ → Answer (A × ℕ)
-readAt width value s at = pick (leb (at + width) (length s)) (given (value, at + width)) (refused incompleteData)
+readAt width value s at = cond (leb (at + width) (length s)) (given (value, at + width)) (refused incompleteData)
 
 -- an unsigned number of so many bytes
 abbrev pub unsignedAt : ℕ → List ℕ → ℕ → Answer (ℕ × ℕ)
@@ -83,11 +79,11 @@ consumed (c.Refused e) = refused (decodeRefusal e)
 
 -- so many bytes as they stand: where they end, or IncompleteData
 unfoldable pub consumeAt : ℕ → List ℕ → ℕ → Answer ℕ
-consumeAt width s at = pick (leb (at + width) (length s)) (given (at + width)) (refused incompleteData)
+consumeAt width s at = cond (leb (at + width) (length s)) (given (at + width)) (refused incompleteData)
 
 -- "12 uuid bytes"; zeros on a refusal
 unfoldable pub uuidAt : List ℕ → ℕ → List ℕ
-uuidAt s at = pick (leb (at + 12) (length s)) (take 12 (drop at s)) (replicate 12 0)
+uuidAt s at = cond (leb (at + 12) (length s)) (take 12 (drop at s)) (replicate 12 0)
 
 pub record UuidAt (s : List ℕ) (at : ℕ) (r : UnpackedUuid) : Type 0 where
   pub answer : consumed (r .answer) ≡ consumeAt 12 s at

@@ -1,12 +1,12 @@
 -- Writing at a position of a lent slice: what is answered, and what the whole slice then holds. Document 01, "Six refusals": on BufferTooSmall
 -- the buffer is unchanged; "on success the bytes past what was written are unchanged, here and in every later writer". Assumes nothing.
+use mathlib.Core.Bool.{cond}
 use mathlib.Core.Path.{_≡_}
 use Prim.Native.Nat.{ℕ, _+_}
 use mathlib.Core.List.{List, _++_}
 use lib.Dec.{leb}
 use lib.ListN.{length, take, drop}
 use Rattle.refusals.specs.Refusals.{Answer, given, refused, encodeRefusal, bufferTooSmall}
-use Rattle.packer.specs.Reading.{pick}
 use Rattle.packer.specs.declared.Packed.{Packed}
 use Rattle.packer.specs.declared.Packed.the-variants.{Next, Refused}
 
@@ -16,11 +16,11 @@ written l at bytes = take at l ++ bytes ++ drop (at + length bytes) l
 
 -- what writing the bytes at a place answers: the place after them, or BufferTooSmall where they don't fit
 unfoldable pub packAnswer : List ℕ → List ℕ → ℕ → Answer ℕ
-packAnswer bytes l at = pick (leb (at + length bytes) (length l)) (given (at + length bytes)) (refused bufferTooSmall)
+packAnswer bytes l at = cond (leb (at + length bytes) (length l)) (given (at + length bytes)) (refused bufferTooSmall)
 
 -- what the slice then holds: no room writes nothing
 unfoldable pub packAfter : List ℕ → List ℕ → ℕ → List ℕ
-packAfter bytes l at = pick (leb (at + length bytes) (length l)) (written l at bytes) l
+packAfter bytes l at = cond (leb (at + length bytes) (length l)) (written l at bytes) l
 
 abbrev pub packed : Packed → Answer ℕ
 packed (Next place) = given place

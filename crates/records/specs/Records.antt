@@ -1,5 +1,6 @@
 -- The telemetry records, document 01, "Reply fields": each field by its entry in the table, from a mask and the raw numbers of the table's fields.
 -- Assumes nothing.
+use mathlib.Core.Bool.{cond}
 use Prim.Native.Nat.{ℕ, _%_}
 use mathlib.Core.List.{List}
 use lib.IntN.{ℤ, pos}
@@ -7,7 +8,6 @@ use lib.Ieee.{Float, binary32, ofInt, ofBits}
 use lib.ListN.{getD}
 use Rattle.floats.specs.Numbers.{readingOf}
 use Rattle.packer.specs.Numbers.{signedOf}
-use Rattle.packer.specs.Reading.{pick}
 use Rattle.fields.specs.Fields.{Kind, h, w, i, u, b, F, Field, field, hasBit, valuesTable, setupTable, statsTable}
 use Rattle.kinds.specs.Kinds.{faultOf}
 use Rattle.kinds.specs.declared.FaultCode.{FaultCode}
@@ -52,13 +52,13 @@ entry table k = getD table k (field 0 b)
 
 -- the value of the field at a place, by its entry: "An absent field is zero"
 abbrev pub floatField : List Field → ℕ → List ℕ → ℕ → Float
-floatField table mask raws k = pick (hasBit mask (entry table k .bit)) (floatBy (entry table k .kind) (getD raws k 0)) zero
+floatField table mask raws k = cond (hasBit mask (entry table k .bit)) (floatBy (entry table k .kind) (getD raws k 0)) zero
 
 abbrev pub signedField : List Field → ℕ → List ℕ → ℕ → ℤ
-signedField table mask raws k = pick (hasBit mask (entry table k .bit)) (signedBy (entry table k .kind) (getD raws k 0)) (pos 0)
+signedField table mask raws k = cond (hasBit mask (entry table k .bit)) (signedBy (entry table k .kind) (getD raws k 0)) (pos 0)
 
 abbrev pub unsignedField : List Field → ℕ → List ℕ → ℕ → ℕ
-unsignedField table mask raws k = pick (hasBit mask (entry table k .bit)) (unsignedBy (entry table k .kind) (getD raws k 0)) 0
+unsignedField table mask raws k = cond (hasBit mask (entry table k .bit)) (unsignedBy (entry table k .kind) (getD raws k 0)) 0
 
 -- zeros, and no fault
 unfoldable pub noValues : Values

@@ -1,13 +1,13 @@
 // The telemetry records. Ports `Values`, `SetupValues` and `Stats` of src/command.rs, and their filling
 // from a mask; the raw numbers are read by the crate `fields`. Every public function takes every
 // argument. Assumes nothing.
+ghost use mathlib.Core.Bool.{cond};
 ghost use mathlib.Core.Path.{_≡_};
 ghost use Prim.Native.Nat.{_*_, _%_, _≤_, _<_};
 ghost use lib.Ieee.{binary32, ofBits};
 ghost use lib.IntN.{pos};
 ghost use Rattle.floats.specs.Numbers.{readingOf};
 ghost use Rattle.packer.specs.Numbers.{signedOf};
-ghost use Rattle.packer.specs.Reading.{pick};
 ghost use Rattle.fields.specs.Fields.{hasBit};
 ghost use Rattle.records.specs.Records.{zero, noValues, noSetupValues, noStats, valuesWith, valuesOf, setupValuesWith, setupValuesOf, statsOf};
 use kinds::FaultCode;
@@ -105,7 +105,7 @@ fn signed(half: u32, number: u32) -> i32
 // hS: a signed 16-bit number over a scale.
 fn half_over(mask: u32, bit: u32, raw: u32, scale: f32) -> f32
     requires { ⌜ bit < 32 ⌝ }
-    ensures { λ r. ⌜ r ≡ pick (hasBit mask bit) (readingOf (signedOf 65536 (raw % 65536)) scale) zero ⌝ }
+    ensures { λ r. ⌜ r ≡ cond (hasBit mask bit) (readingOf (signedOf 65536 (raw % 65536)) scale) zero ⌝ }
 {
     if has_bit(mask, bit) {
         return floats::scaled(signed(32768, raw % 65536), scale);
@@ -116,7 +116,7 @@ fn half_over(mask: u32, bit: u32, raw: u32, scale: f32) -> f32
 // wS: a signed 32-bit number over a scale.
 fn word_over(mask: u32, bit: u32, raw: u32, scale: f32) -> f32
     requires { ⌜ bit < 32 ⌝ }
-    ensures { λ r. ⌜ r ≡ pick (hasBit mask bit) (readingOf (signedOf 4294967296 raw) scale) zero ⌝ }
+    ensures { λ r. ⌜ r ≡ cond (hasBit mask bit) (readingOf (signedOf 4294967296 raw) scale) zero ⌝ }
 {
     if has_bit(mask, bit) {
         return floats::scaled(signed(2147483648, raw), scale);
@@ -127,7 +127,7 @@ fn word_over(mask: u32, bit: u32, raw: u32, scale: f32) -> f32
 // i: a signed 32-bit number.
 fn signed_word(mask: u32, bit: u32, raw: u32) -> i32
     requires { ⌜ bit < 32 ⌝ }
-    ensures { λ r. ⌜ r ≡ pick (hasBit mask bit) (signedOf 4294967296 raw) (pos 0) ⌝ }
+    ensures { λ r. ⌜ r ≡ cond (hasBit mask bit) (signedOf 4294967296 raw) (pos 0) ⌝ }
 {
     if has_bit(mask, bit) {
         return signed(2147483648, raw);
@@ -138,7 +138,7 @@ fn signed_word(mask: u32, bit: u32, raw: u32) -> i32
 // u: an unsigned one.
 fn unsigned_word(mask: u32, bit: u32, raw: u32) -> u32
     requires { ⌜ bit < 32 ⌝ }
-    ensures { λ r. ⌜ r ≡ pick (hasBit mask bit) raw 0 ⌝ }
+    ensures { λ r. ⌜ r ≡ cond (hasBit mask bit) raw 0 ⌝ }
 {
     if has_bit(mask, bit) {
         return raw;
@@ -149,7 +149,7 @@ fn unsigned_word(mask: u32, bit: u32, raw: u32) -> u32
 // b: a byte.
 fn one_byte(mask: u32, bit: u32, raw: u32) -> u8
     requires { ⌜ bit < 32 ⌝ }
-    ensures { λ r. ⌜ r ≡ pick (hasBit mask bit) (raw % 256) 0 ⌝ }
+    ensures { λ r. ⌜ r ≡ cond (hasBit mask bit) (raw % 256) 0 ⌝ }
 {
     if has_bit(mask, bit) {
         return (raw % 256) as u8;
@@ -160,7 +160,7 @@ fn one_byte(mask: u32, bit: u32, raw: u32) -> u8
 // F: a binary32 by its bits.
 fn float_by_bits(mask: u32, bit: u32, raw: u32) -> f32
     requires { ⌜ bit < 32 ⌝ }
-    ensures { λ r. ⌜ r ≡ pick (hasBit mask bit) (ofBits binary32 raw) zero ⌝ }
+    ensures { λ r. ⌜ r ≡ cond (hasBit mask bit) (ofBits binary32 raw) zero ⌝ }
 {
     if has_bit(mask, bit) {
         return floats::f32_from_bits(raw);

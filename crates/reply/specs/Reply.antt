@@ -1,10 +1,11 @@
 -- A reply, document 01, "Reply fields" and "Port order and change of shape": "the kind, one telemetry record of each sort by value, the names beside; unused records
 -- .. hold zeros, false, fault None and the kinds numbered 0". Assumes nothing.
+use mathlib.Core.Bool.{cond}
 use Prim.Native.Nat.{ℕ, _-_, _^_}
 use mathlib.Core.List.{List}
 use lib.Dec.{eqb}
 use lib.ListN.{getD}
-use Rattle.packer.specs.Reading.{pick, unsignedAt}
+use Rattle.packer.specs.Reading.{unsignedAt}
 use Rattle.fields.specs.Fields.{valuesTable, setupTable, statsTable}
 use Rattle.fields.specs.Reading.{unpackedRaws}
 use Rattle.firmware.specs.Firmware.{numberOf, fwVersionOf, fwInfoOf, noFwVersion, noFwInfo}
@@ -126,10 +127,10 @@ fwInfoReplyOf payload = withFwInfo (fwInfoOf payload)
 -- the reply that a good frame's payload carries, by its id; the empty one where the id is no reply's, which a good frame's never is
 unfoldable pub replyOf : List ℕ → CommandReply
 replyOf payload =
-    pick (eqb (getD payload 0 0) 0) (fwVersionReplyOf payload)
-    (pick (eqb (getD payload 0 0) 4) (getValuesOf payload)
-    (pick (eqb (getD payload 0 0) 50) (getValuesSelectiveOf payload)
-    (pick (eqb (getD payload 0 0) 51) (getValuesSetupSelectiveOf payload)
-    (pick (eqb (getD payload 0 0) 128) (getStatsOf payload)
-    (pick (eqb (getD payload 0 0) 129) (blankOf Kind.ResetStats)
-    (pick (eqb (getD payload 0 0) 157) (fwInfoReplyOf payload) emptyReply))))))
+    cond (eqb (getD payload 0 0) 0) (fwVersionReplyOf payload)
+    (cond (eqb (getD payload 0 0) 4) (getValuesOf payload)
+    (cond (eqb (getD payload 0 0) 50) (getValuesSelectiveOf payload)
+    (cond (eqb (getD payload 0 0) 51) (getValuesSetupSelectiveOf payload)
+    (cond (eqb (getD payload 0 0) 128) (getStatsOf payload)
+    (cond (eqb (getD payload 0 0) 129) (blankOf Kind.ResetStats)
+    (cond (eqb (getD payload 0 0) 157) (fwInfoReplyOf payload) emptyReply))))))
