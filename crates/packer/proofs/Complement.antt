@@ -46,15 +46,15 @@ mag-below-half half n h = go (ltb (n * 2) (half * 2)) (ltb→lt (n * 2) (half * 
     go false k l = let m : half * 2 ≤ n * 2 = l tt in omega arith
 
 -- a number that came by a call, as an i32 and as an i16
-pub as-i32 : (z v : ℤ) → mag z < 2 ^ 31 → z ≡ v → toZ w32 (ofZ w32 z) ≡ v
-as-i32 z v h e = toZ-ofZ w32 z (record { sfits = h }) ∙ e
+pub called-i32 : (z v : ℤ) → mag z < 2 ^ 31 → z ≡ v → toZ w32 (ofZ w32 z) ≡ v
+called-i32 z v h e = toZ-ofZ w32 z (record { sfits = h }) ∙ e
 
 module _ (z : ℤ) (n : ℕ) (h : mag z < 2 ^ 31) (k : n < 65536) (e : z ≡ signedOf 65536 n) where
   pub fits-i16 : SFits w16 (toZ w32 (ofZ w32 z))
-  fits-i16 = rw (as-i32 z (signedOf 65536 n) h e) (record { sfits = mag-below-half 32768 n k })
+  fits-i16 = rw (called-i32 z (signedOf 65536 n) h e) (record { sfits = mag-below-half 32768 n k })
 
-  pub as-i16 : toZ w16 (ofZ w16 (toZ w32 (ofZ w32 z))) ≡ signedOf 65536 n
-  as-i16 = rw (as-i32 z (signedOf 65536 n) h e) (toZ-ofZ w16 (signedOf 65536 n) (record { sfits = mag-below-half 32768 n k }))
+  pub called-i16 : toZ w16 (ofZ w16 (toZ w32 (ofZ w32 z))) ≡ signedOf 65536 n
+  called-i16 = rw (called-i32 z (signedOf 65536 n) h e) (toZ-ofZ w16 (signedOf 65536 n) (record { sfits = mag-below-half 32768 n k }))
 
 -- ---- the bits of a signed number, by way of -1 - v where it is negative
 from-minus-one : (n : ℕ) → negsuc 0 -ℤ negsuc n ≡ pos n

@@ -1,7 +1,7 @@
 // Numbers in a lent slice of bytes. Ports src/packer.rs: what its `Unpacker` and `Packer` do at
 // their position stands here as functions of the slice and the position. Assumes nothing.
 ghost use mathlib.Core.Path.{_≡_};
-ghost use Prim.Native.Nat.{_+_, _*_, _≤_, _<_, _^_};
+ghost use Prim.Native.Nat.{_+_, _*_, _%_, _≤_, _<_, _^_};
 ghost use lib.ListN.{length};
 ghost use lib.Signed.{mag};
 ghost use Rattle.floats.specs.Numbers.{writingOf};
@@ -103,6 +103,20 @@ fn signed(half: u32, number: u32) -> i32
     -1 - (below as i32)
 }
 
+// The Rust's `number as i32`. Rattle's own `as` is defined only where it loses nothing.
+pub fn as_i32(number: u32) -> i32
+    ensures { λ r. ⌜ r ≡ signedOf 4294967296 number ⌝ }
+{
+    signed(2147483648, number)
+}
+
+// The Rust's `number as i16`, of the lowest 16 bits, in an i32.
+pub fn as_i16(number: u32) -> i32
+    ensures { λ r. ⌜ r ≡ signedOf 65536 (number % 65536) ⌝ }
+{
+    signed(32768, number % 65536)
+}
+
 pub fn unpack_u32(buf: &[u8], pos: usize) -> UnpackedU32
     ensures { λ r. ⌜ unpackedU32 r ≡ unsignedAt 4 (now (buf .entry)) pos ⌝ }
 {
@@ -113,7 +127,7 @@ pub fn unpack_i32(buf: &[u8], pos: usize) -> UnpackedI32
     ensures { λ r. ⌜ unpackedI32 r ≡ signedAt 4 (now (buf .entry)) pos ⌝ }
 {
     match unpack_be(buf, pos, 4) {
-        UnpackedU32::Got(number, next) => UnpackedI32::Got(signed(2147483648, number), next),
+        UnpackedU32::Got(number, next) => UnpackedI32::Got(as_i32(number), next),
         UnpackedU32::Refused(e) => UnpackedI32::Refused(e),
     }
 }

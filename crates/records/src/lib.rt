@@ -3,7 +3,7 @@
 // argument. Assumes nothing.
 ghost use mathlib.Core.Bool.{cond};
 ghost use mathlib.Core.Path.{_≡_};
-ghost use Prim.Native.Nat.{_*_, _%_, _≤_, _<_};
+ghost use Prim.Native.Nat.{_%_, _<_};
 ghost use lib.Ieee.{binary32, ofBits};
 ghost use lib.IntN.{pos};
 ghost use Rattle.floats.specs.Numbers.{readingOf};
@@ -88,18 +88,6 @@ fn has_bit(mask: u32, bit: u32) -> bool
     (mask >> bit) % 2 == 1
 }
 
-// The two's complement reading of a number below 2 * `half`: `half` is the weight of its sign.
-fn signed(half: u32, number: u32) -> i32
-    requires { ⌜ (half ≤ 2147483648) × (number < half * 2) ⌝ }
-    ensures { λ r. ⌜ r ≡ signedOf (half * 2) number ⌝ }
-{
-    if number < half {
-        return number as i32;
-    }
-    let below = half - 1 - (number - half);
-    -1 - (below as i32)
-}
-
 // A field's value from its raw number, one function for each kind; zero where the mask lacks its bit.
 
 // hS: a signed 16-bit number over a scale.
@@ -108,7 +96,7 @@ fn half_over(mask: u32, bit: u32, raw: u32, scale: f32) -> f32
     ensures { λ r. ⌜ r ≡ cond (hasBit mask bit) (readingOf (signedOf 65536 (raw % 65536)) scale) zero ⌝ }
 {
     if has_bit(mask, bit) {
-        return floats::scaled(signed(32768, raw % 65536), scale);
+        return floats::scaled(packer::as_i16(raw), scale);
     }
     0.0
 }
@@ -119,7 +107,7 @@ fn word_over(mask: u32, bit: u32, raw: u32, scale: f32) -> f32
     ensures { λ r. ⌜ r ≡ cond (hasBit mask bit) (readingOf (signedOf 4294967296 raw) scale) zero ⌝ }
 {
     if has_bit(mask, bit) {
-        return floats::scaled(signed(2147483648, raw), scale);
+        return floats::scaled(packer::as_i32(raw), scale);
     }
     0.0
 }
@@ -130,7 +118,7 @@ fn signed_word(mask: u32, bit: u32, raw: u32) -> i32
     ensures { λ r. ⌜ r ≡ cond (hasBit mask bit) (signedOf 4294967296 raw) (pos 0) ⌝ }
 {
     if has_bit(mask, bit) {
-        return signed(2147483648, raw);
+        return packer::as_i32(raw);
     }
     0
 }

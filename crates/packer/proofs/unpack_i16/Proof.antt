@@ -2,7 +2,7 @@
 use mathlib.Core.Path.{sym, ap, subst, _∙_}
 use Rattle.packer.proofs.Places.{made, not-made}
 use native.Mathlib.Omega.{arith}
-use Rattle.packer.proofs.Complement.{as-i16, fits-i16}
+use Rattle.packer.proofs.Complement.{called-i16, fits-i16}
 use Rattle.packer.specs.Numbers.{signedOf}
 use Rattle.packer.specs.Reading.{unpackedU32, NumberBelow}
 use borrow.Author.Needs.{needs}
@@ -26,7 +26,7 @@ enum-known-e c = search needs
 
 returns : tie.Need-returns
 returns c =
-    made (signedOf 65536) _ _ _ _ _ _ _ (as-i16 _ _ (c .signed .ok) (subst (NumberBelow 65536) (c .before .before .number .given .1) (c .before .before .before .before .unpack-be .ensures .1)) (c .signed .ensures))
+    made (signedOf 65536) _ _ _ _ _ _ _ (called-i16 _ _ (c .signed .ok) (subst (NumberBelow 65536) (c .before .before .number .given .1) (c .before .before .before .before .unpack-be .ensures .1)) (c .signed .ensures))
     (sym (ap unpackedU32 (c .before .before .number .given .1)) ∙ c .before .before .before .before .unpack-be .ensures .0)
 
 returns-2 : tie.Need-returns-2
