@@ -7,7 +7,7 @@ use native.Mathlib.Omega.{arith}
 use lib.Dec.{leb, ltb}
 use lib.ListN.{length, getD, take, drop, length-append, length-take, length-drop, List·getD-append}
 use lib.Seq.{getD-take, take-append-le, drop-append-le}
-use borrow.Author.Tests.{le-leb, lt-leb, leb-true, lt-ltb, le-ltb, ltb-true}
+use borrow.Author.Tests.{le-leb, leb-true, lt-ltb, le-ltb, ltb-true}
 use Rattle.refusals.specs.Refusals.{Answer, given, refused, incompleteData}
 use Rattle.packer.specs.Numbers.{beAt}
 use Rattle.packer.specs.Reading.{readAt, unsignedAt, consumeAt, consumed}

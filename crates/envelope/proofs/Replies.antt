@@ -1,5 +1,4 @@
 -- The seven replies' readers, a term for each: what a reader of fields promises, and how many bytes it reads at the most. Assumes nothing.
-use mathlib.Core.Bool.{cond}
 use Prim.Native.Nat.{ℕ}
 use native.Mathlib.Omega.{arith}
 use lib.Dec.{eqb}

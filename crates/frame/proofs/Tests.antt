@@ -1,8 +1,8 @@
 -- What `encode` answers to a payload of n bytes and leaves in the buffer, by document 01's tests. Assumes nothing.
-use mathlib.Core.Path.{_≡_, ap, _∙_}
-use mathlib.Core.List.{List, _++_}
+use mathlib.Core.Path.{_≡_, ap}
+use mathlib.Core.List.{List}
 use Prim.Native.Nat.{ℕ, _+_, _≤_, _<_}
-use lib.ListN.{length, drop}
+use lib.ListN.{length}
 use borrow.Author.Tests.{lt-ltb, le-ltb}
 use Rattle.refusals.specs.Refusals.{Answer, given, refused, bufferTooSmall, payloadTooLong}
 use Rattle.frame.specs.Frame.{frameOf}

@@ -1,16 +1,20 @@
 -- A good frame that no earlier frame of the reading overlaps is given in time. Assumes nothing.
 use mathlib.Core.Path.{_≡_, sym, ap, _∙_, subst}
 use mathlib.Core.List.{List, [], _∷_, _++_, append-assoc}
-use Prim.Native.Nat.{ℕ, zero, suc, _+_, _-_, _≤_}
+use Prim.Native.Nat.{ℕ, zero, suc, _+_, _-_, _≤_, _<_}
 use native.Mathlib.Omega.{arith}
 use native.Mathlib.Nat.{zero-add}
 use lib.ListN.{length, take, drop, length-drop, take-append-drop}
 use lib.Seq.{drop-drop, drop-append-le, take-append-le}
 use Rattle.reading.specs.Reading.{takes, notYet, movesOn, Judge, Given, Steady, Bounded, readingFrom, reading}
-use Rattle.reading.specs.Lateness.{Settled, TakenIn, NoneOver, GivenAt}
+use Rattle.reading.specs.Lateness.{TakenIn, NoneOver, GivenAt}
 use Rattle.reading.proofs.Turns.{by-reading, at-good-frame, at-noise, good-told, good-no-noise}
 use Rattle.reading.proofs.Frames.{each-front}
 use Rattle.reading.proofs.Joined.{given-front, good-stands}
+
+-- at every position before p it can be told whether a good frame starts there
+abbrev Settled : {R : Type 0} → Judge R → List ℕ → ℕ → Type 0
+Settled judge xs p = (q : ℕ) → q < p → judge (drop q xs) ≡ notYet → ⊥
 
 module _ {R : Type 0} (judge : Judge R) (steady : Steady judge) where
   -- With a bound, the bytes before p are settled as soon as bound - 1 bytes counted from the one at p have been taken in.

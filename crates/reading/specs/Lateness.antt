@@ -3,12 +3,8 @@
 use mathlib.Core.Path.{_≡_}
 use mathlib.Core.List.{List, [], _∷_, _++_}
 use Prim.Native.Nat.{ℕ, _+_, _-_, _<_, _≤_}
-use lib.ListN.{length, drop}
-use Rattle.reading.specs.Reading.{Judge, notYet, Given}
-
--- at every position before p it can be told whether a good frame starts there
-abbrev pub Settled : {R : Type 0} → Judge R → List ℕ → ℕ → Type 0
-Settled judge xs p = (q : ℕ) → q < p → judge (drop q xs) ≡ notYet → ⊥
+use lib.ListN.{length}
+use Rattle.reading.specs.Reading.{Given}
 
 -- bound - 1 bytes, counted from the one at p, have been taken in with xs
 abbrev pub TakenIn : ℕ → ℕ → List ℕ → Type 0

@@ -5,7 +5,6 @@ use crate::shows;
 use command::Command;
 use frame::Encoded;
 use libc::STDOUT_FILENO;
-use packer::UnpackedF32;
 use packer::UnpackedI32;
 use packer::UnpackedU16;
 use packer::UnpackedU32;

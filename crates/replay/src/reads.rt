@@ -1,11 +1,8 @@
 // The readers' cases: a scale's bits, a position, and the slice that is read.
 use crate::shows;
 use libc::STDOUT_FILENO;
-use names::Name39;
-use names::Name47;
 use names::Scan;
 use packer::Consumed;
-use packer::Packed;
 use packer::UnpackedF32;
 use packer::UnpackedI16;
 use packer::UnpackedI32;
