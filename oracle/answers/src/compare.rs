@@ -29,12 +29,21 @@ fn differences(program: &str, block: &Block) -> usize {
     }
 }
 
+/// A number of the command line.
+fn number<T: std::str::FromStr>(text: &str, what: &str) -> T {
+    text.parse().unwrap_or_else(|_| {
+        eprintln!("answers: {what} is no number: {text}");
+        std::process::exit(2);
+    })
+}
+
+/// Exits with 1 where any answer differs.
 pub fn run(args: &[String]) {
     let [seed, decodes, encodes, runs, program] = args else {
         eprintln!("usage: answers compare SEED DECODES ENCODES STREAMS PROGRAM");
         std::process::exit(2);
     };
-    let seed: u64 = seed.parse().expect("a seed");
+    let seed: u64 = number(seed, "the seed");
     let mut random = Random(seed ^ 0x9E37_79B9_7F4A_7C15);
     println!("seed {seed}");
     let sorts: [(&str, &str, usize, fn(&mut Block, &mut Random, usize)); 3] = [
@@ -42,8 +51,9 @@ pub fn run(args: &[String]) {
         ("encode", encodes, 50_000, commands::some),
         ("stream", runs, 500, streams::some),
     ];
+    let mut all = 0;
     for (name, wanted, most, make) in sorts {
-        let wanted: usize = wanted.parse().expect("a number of cases");
+        let wanted: usize = number(wanted, name);
         let (mut left, mut cases, mut good, mut nans, mut differ) = (wanted, 0, 0, 0, 0);
         while left > 0 {
             let now = left.min(most);
@@ -55,6 +65,11 @@ pub fn run(args: &[String]) {
             nans += block.nans;
             left -= now;
         }
-        println!("{name}: {cases} cases, {good} good frames, {nans} of them with a NaN, {differ} differences");
+        let frames = if good > 0 { format!(" ({good} good frames, {nans} of them with a NaN)") } else { String::new() };
+        println!("{name}: {cases} cases{frames}, {differ} differences");
+        all += differ;
+    }
+    if all > 0 {
+        std::process::exit(1);
     }
 }
