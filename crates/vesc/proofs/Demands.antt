@@ -5,9 +5,11 @@ use Prim.Native.Nat.{ℕ, _+_, _-_, _≤_, _<_}
 use native.Mathlib.Omega.{arith}
 use lib.ListN.{length, getD, take, drop}
 use mathlib.Core.Bool.{Bool, true, false, not}
-use lib.Dec.{T, ltb, ltb→lt, nltb→le}
-use borrow.Author.Tests.{ne-eqb}
-use Rattle.refusals.specs.Refusals.{Refusal, Answer, given, refused, incompleteData, invalidFrame, unknownPacket, checksumMismatch}
+use lib.Dec.{T, ltb, eqb, ltb→lt, nltb→le}
+use mathlib.Core.Logic.{_↔_}
+use borrow.Author.Tests.{ne-eqb, eqb-true, eqb-false}
+use Rattle.refusals.specs.Refusals.{Refusal, Answer, given, refused, incompleteData, invalidFrame, unknownPacket, checksumMismatch, bufferTooSmall, payloadTooLong}
+use Rattle.refusals.proofs.Different.{none}
 use Rattle.checksum.specs.Xmodem.{checksumOf}
 use Rattle.checksum.proofs.Remainder.{register-is-remainder}
 use Rattle.checksum.proofs.CheckValue.{check-value}
@@ -16,7 +18,7 @@ use Rattle.text.proofs.Rule.{well-formed-iff}
 use Rattle.packer.specs.Numbers.{beAt}
 use Rattle.packer.specs.Reading.{unsignedAt}
 use Rattle.packer.proofs.Places.{got, lacking, lent-whole}
-use Rattle.frame.specs.Encode.{Encodes}
+use Rattle.frame.specs.Encode.{Encodes, encoded, encodeAnswer}
 use Rattle.frame.proofs.Exact.{refused-writes-nothing}
 use Rattle.frame.proofs.Tests.{answer-too-long, answer-too-small, answer-fits}
 use Rattle.command.specs.declared.Command.{Command}
@@ -27,14 +29,51 @@ use Rattle.envelope.proofs.Good.{good-judged}
 use Rattle.reply.specs.Decode.{replyBy, decodeOf}
 use Rattle.reply.specs.Reply.{emptyReply}
 use Rattle.decoder.proofs.DemandThree as stream
-use Rattle.vesc.specs.Demands.{EncodeRefuses, DecodeRefuses, Fields, NoneOf, replyIds, DemandOne, DemandTwo, DemandThree, carried, summed}
+use Rattle.vesc.specs.Demands.{EncodeRefuses, DecodeRefuses, Fields, NoneOf, replyIds, Way, no-start, start-wrong, no-length, no-id, fields-wrong, length-wrong, no-end, end-wrong, sum-wrong, good, answerOf, DemandOne, DemandTwo, DemandThree, carried, summed}
+
+-- ---- a fact or its other side
+by-order : {C : Type 0} (a b : ℕ) → (a < b → C) → (b ≤ a → C) → C
+by-order {C} a b less more = go (ltb a b) (ltb→lt a b) (nltb→le a b)
+  where
+    go : (t : Bool) → (T t → a < b) → (T (not t) → b ≤ a) → C
+    go true l m = less (l tt)
+    go false l m = more (m tt)
+
+by-equality : {C : Type 0} (a b : ℕ) → (a ≡ b → C) → ((a ≡ b → ⊥) → C) → C
+by-equality {C} a b same differs = go (eqb a b) refl
+  where
+    go : (t : Bool) → eqb a b ≡ t → C
+    go true e = same (eqb-true a b e)
+    go false e = differs (eqb-false a b e)
+
+-- ---- two answers are not one
+abbrev numberOf : Answer ℕ → ℕ
+numberOf (given value) = 0
+numberOf (refused why) = why .number
+
+six-five : {C : Type 0} → _≡_ {A = Answer ℕ} (refused payloadTooLong) (refused bufferTooSmall) → C
+six-five e = let z : _≡_ {A = ℕ} 6 5 = ap numberOf e in absurd (omega arith)
+
+one-answer : {C : Type 0} {why : Refusal} {n : ℕ} → _≡_ {A = Answer ℕ} (refused why) (given n) → C
+one-answer e = none (cc)
+
+-- ---- what `encode` answers, by the length n of the payload and the room
+module _ (n room : ℕ) (a : Answer ℕ) (is : a ≡ encodeAnswer n room) where
+  answer-long : (a ≡ refused payloadTooLong) ↔ (255 < n)
+  answer-long = (λ e. by-order 255 n (λ h. h) (λ h. by-order room (n + 5) (λ k. six-five (sym e ∙ is ∙ answer-too-small n room h k)) (λ k. one-answer (sym e ∙ is ∙ answer-fits n room h k))), λ h. is ∙ answer-too-long n room h)
+
+  answer-small : (a ≡ refused bufferTooSmall) ↔ ((n ≤ 255) × (room < n + 5))
+  answer-small = (λ e. by-order 255 n (λ h. six-five (sym (answer-too-long n room h) ∙ sym is ∙ e)) (λ h. by-order room (n + 5) (λ k. (h, k)) (λ k. one-answer (sym e ∙ is ∙ answer-fits n room h k))), λ h. is ∙ answer-too-small n room (h .0) (h .1))
+
+  answer-room : (a ≡ given (n + 5)) ↔ ((n ≤ 255) × (n + 5 ≤ room))
+  answer-room = (λ e. by-order 255 n (λ h. one-answer (sym (answer-too-long n room h) ∙ sym is ∙ e)) (λ h. by-order room (n + 5) (λ k. one-answer (sym (answer-too-small n room h k) ∙ sym is ∙ e)) (λ k. (h, k))), λ h. is ∙ answer-fits n room (h .0) (h .1))
 
 encode-refuses : (command : Command) (hops buffer : List ℕ) (r : Encoded) (after : List ℕ) → Encodes command hops buffer r after → EncodeRefuses command hops buffer r after
 encode-refuses command hops buffer r after w =
     record {
-      too-long = λ h. w .answer ∙ answer-too-long _ _ h;
-      too-small = λ h k. w .answer ∙ answer-too-small _ _ h k;
-      fits = λ h k. w .answer ∙ answer-fits _ _ h k;
+      too-long = answer-long _ _ (encoded r) (w .answer);
+      too-small = answer-small _ _ (encoded r) (w .answer);
+      fits = answer-room _ _ (encoded r) (w .answer);
       unchanged = λ e same. refused-writes-nothing command hops buffer after e (subst (λ (a : Encoded). Encodes command hops buffer a after) same w);
     }
 
@@ -57,8 +96,8 @@ module _ (s : List ℕ) where
   sum-there h = sym (got 2 (beAt s (getD s 1 0 + 2) 2) s (getD s 1 0 + 2) (omega arith))
 
   -- a byte of the sum is missing, or the end byte
-  no-end : Fields s → length s < getD s 1 0 + 5 → judgeOf s ≡ refused incompleteData
-  no-end f h = sym (finished f) ∙ go (ltb (length s) (getD s 1 0 + 4)) (ltb→lt _ _) (nltb→le _ _)
+  end-missing : Fields s → length s < getD s 1 0 + 5 → judgeOf s ≡ refused incompleteData
+  end-missing f h = sym (finished f) ∙ go (ltb (length s) (getD s 1 0 + 4)) (ltb→lt _ _) (nltb→le _ _)
     where
       go : (b : Bool) → (T b → length s < getD s 1 0 + 4) → (T (not b) → getD s 1 0 + 4 ≤ length s) → finishOf s (getD s 1 0) ≡ refused incompleteData
       go true less more =
@@ -69,8 +108,8 @@ module _ (s : List ℕ) where
           sym (order.no-end s (getD s 1 0) (carried s, getD s 1 0 + 2 + 2) (sum-there k) (omega arith))
 
   module _ (f : Fields s) (there : getD s 1 0 + 5 ≤ length s) where
-    end-wrong : (getD s (getD s 1 0 + 4) 0 ≡ 3 → ⊥) → judgeOf s ≡ refused invalidFrame
-    end-wrong differs = sym (finished f) ∙ sym (order.end-wrong s (getD s 1 0) (carried s, getD s 1 0 + 2 + 2) (sum-there (omega arith)) (omega arith) differs)
+    end-is-wrong : (getD s (getD s 1 0 + 4) 0 ≡ 3 → ⊥) → judgeOf s ≡ refused invalidFrame
+    end-is-wrong differs = sym (finished f) ∙ sym (order.end-wrong s (getD s 1 0) (carried s, getD s 1 0 + 2 + 2) (sum-there (omega arith)) (omega arith) differs)
 
     module _ (end : getD s (getD s 1 0 + 4) 0 ≡ 3) where
       ended : judgeSumOf s (getD s 1 0) (carried s) ≡ judgeOf s
@@ -80,33 +119,55 @@ module _ (s : List ℕ) where
       unfolding payloadPart
       sum-of = let all : getD s 1 0 + 2 - 2 ≡ getD s 1 0 = omega arith in rw all
 
-      sum-wrong : (carried s ≡ summed s → ⊥) → judgeOf s ≡ refused (checksumMismatch (carried s) (summed s))
-      sum-wrong differs = sym ended ∙ sym (order.sum-wrong s (getD s 1 0) (carried s) (summed s) sum-of differs)
+      sum-is-wrong : (carried s ≡ summed s → ⊥) → judgeOf s ≡ refused (checksumMismatch (carried s) (summed s))
+      sum-is-wrong differs = sym ended ∙ sym (order.sum-wrong s (getD s 1 0) (carried s) (summed s) sum-of differs)
 
-      good : carried s ≡ summed s → judgeOf s ≡ given (getD s 1 0 + 5)
-      good same = good-judged s (getD s 1 0) (record { there = there; start = f .start; declared = refl; fields = f .read; sum = same; end = end })
+      all-good : carried s ≡ summed s → judgeOf s ≡ given (getD s 1 0 + 5)
+      all-good same = good-judged s (getD s 1 0) (record { there = there; start = f .start; declared = refl; fields = f .read; sum = same; end = end })
 
   empty-by : (why : Refusal) → judgeOf s ≡ refused why → replyBy (judgeOf s) s ≡ emptyReply
   unfolding replyBy
   empty-by why e = rw e
 
+  goes : Way s
+  goes =
+      by-order 0 (length s)
+      (λ one. by-equality (getD s 0 0) 2
+      (λ start. by-order 1 (length s)
+      (λ two. by-order 2 (length s) (λ three. after-id three start _ refl) (no-id two start))
+      (no-length one start))
+      (start-wrong one))
+      no-start
+    where
+      after-sum : (f : Fields s) → Way s
+      after-sum f =
+          by-order (length s) (getD s 1 0 + 5) (no-end f)
+          (λ there. by-equality (getD s (getD s 1 0 + 4) 0) 3
+          (λ end. by-equality (carried s) (summed s) (good f there end) (sum-wrong f there end))
+          (end-wrong f there))
+
+      after-id : 2 < length s → getD s 0 0 ≡ 2 → (a : Answer ℕ) → fieldsEnd (getD s 2 0) (drop 2 s) 1 ≡ a → Way s
+      after-id three start (refused why) e = fields-wrong three start why e
+      after-id three start (given read) e =
+          by-equality (getD s 1 0) read
+          (λ same. after-sum (record { there = three; start = start; read = e ∙ ap given (sym same) }))
+          (length-wrong three start read e)
+
+  answer : (way : Way s) → judgeOf s ≡ answerOf way
+  answer (no-start h) = sym (order.no-start s h)
+  answer (start-wrong h differs) = sym (order.start-wrong s h differs)
+  answer (no-length h start past) = sym (order.no-length s start h past)
+  answer (no-id h start past) = sym (order.no-id s start h past)
+  answer (fields-wrong h start why e) = fields-refused h start why e
+  answer (length-wrong h start read e differs) = sym (order.length-wrong s start h (getD s 1 0) refl read (fields-at h (given read) e) differs)
+  answer (no-end f past) = end-missing f past
+  answer (end-wrong f there differs) = end-is-wrong f there differs
+  answer (sum-wrong f there end differs) = sum-is-wrong f there end differs
+  answer (good f there end same) = all-good f there end same
+
   decode-refuses : DecodeRefuses s
   unfolding decodeOf
-  decode-refuses =
-      record {
-        no-start = λ h. sym (order.no-start s h);
-        start-wrong = λ h differs. sym (order.start-wrong s h differs);
-        no-length = λ h start past. sym (order.no-length s start h past);
-        no-id = λ h start past. sym (order.no-id s start h past);
-        unknown-id = λ h start none. fields-refused h start _ (no-reply none);
-        fields-wrong = fields-refused;
-        length-wrong = λ h start read e differs. sym (order.length-wrong s start h (getD s 1 0) refl read (fields-at h (given read) e) differs);
-        no-end = no-end;
-        end-wrong = end-wrong;
-        sum-wrong = sum-wrong;
-        good = good;
-        empty = empty-by;
-      }
+  decode-refuses = record { goes = goes; answer = answer; unknown-id = λ h start none-of. fields-refused h start _ (no-reply none-of); empty = empty-by }
 
 pub demand-one : DemandOne
 demand-one = record { encode = encode-refuses; decode = decode-refuses }

@@ -7,7 +7,7 @@ use mathlib.Core.List.{List, [], _∷_, _++_}
 use Prim.Native.Nat.{ℕ, _+_, _^_, _≤_, _<_}
 use lib.IntN.{ℤ}
 use lib.ListN.{length, getD, take, drop}
-use Rattle.refusals.specs.Refusals.{Refusal, given, refused, incompleteData, invalidFrame, unknownPacket, checksumMismatch, bufferTooSmall, payloadTooLong}
+use Rattle.refusals.specs.Refusals.{Refusal, Answer, given, refused, incompleteData, invalidFrame, unknownPacket, checksumMismatch, bufferTooSmall, payloadTooLong}
 use Rattle.refusals.specs.declared.EncodeError.{EncodeError}
 use Rattle.checksum.specs.Xmodem.{checksumOf, registerOf}
 use Rattle.floats.specs.Near.{ReadingNear, size}
@@ -30,14 +30,14 @@ use Rattle.decoder.specs.Frames.{frames}
 
 -- "1. No call traps, hangs or relies on its caller. IncompleteData, InvalidFrame, UnknownPacket, ChecksumMismatch, BufferTooSmall and PayloadTooLong come exactly when
 -- document 01 says. A refused encode writes nothing."
--- That no call traps, hangs or relies on its caller is what the check of each crate proves: no public function has a `requires`. The conditions of the ways
--- out below exclude one another and leave no case out, so each refusal comes exactly where its condition holds.
+-- That no call traps, hangs or relies on its caller is what the check of each crate proves: no public function has a `requires`.
 
 -- whatever `encode` answers, for every command, hops and buffer: r, with `after` in the buffer
 pub record EncodeRefuses (command : Command) (hops buffer : List ℕ) (r : Encoded) (after : List ℕ) : Type 0 where
-  pub too-long : 255 < length (payloadOf command hops) → encoded r ≡ refused payloadTooLong
-  pub too-small : length (payloadOf command hops) ≤ 255 → length buffer < length (payloadOf command hops) + 5 → encoded r ≡ refused bufferTooSmall
-  pub fits : length (payloadOf command hops) ≤ 255 → length (payloadOf command hops) + 5 ≤ length buffer → encoded r ≡ given (length (payloadOf command hops) + 5)
+  pub too-long : (encoded r ≡ refused payloadTooLong) ↔ (255 < length (payloadOf command hops))
+  pub too-small : (encoded r ≡ refused bufferTooSmall) ↔ ((length (payloadOf command hops) ≤ 255) × (length buffer < length (payloadOf command hops) + 5))
+  pub fits
+      : (encoded r ≡ given (length (payloadOf command hops) + 5)) ↔ ((length (payloadOf command hops) ≤ 255) × (length (payloadOf command hops) + 5 ≤ length buffer))
   pub unchanged : (e : EncodeError) → r ≡ Refused e → after ≡ buffer
 
 -- the sum that a frame carries, and that of its payload; the length byte says where they are
@@ -62,24 +62,40 @@ abbrev pub NoneOf : List ℕ → ℕ → Type 0
 NoneOf [] id = Unit
 NoneOf (known ∷ others) id = (id ≡ known → ⊥) × NoneOf others id
 
--- what `decode` answers to a slice s, in document 01's order; `getD s 1 0`, the length byte, is document 01's n, and the fields are read from byte 2 on
+-- the ways that `decode` of a slice s can go, in document 01's order; `getD s 1 0`, the length byte, is document 01's n, and the fields are read from byte 2 on
+pub data Way (s : List ℕ) : Type 0 where
+  no-start : length s ≤ 0 → Way s
+  start-wrong : 0 < length s → (getD s 0 0 ≡ 2 → ⊥) → Way s
+  no-length : 0 < length s → getD s 0 0 ≡ 2 → length s ≤ 1 → Way s
+  no-id : 1 < length s → getD s 0 0 ≡ 2 → length s ≤ 2 → Way s
+  -- an id that is no reply's, a field past the end, or a name without NUL
+  fields-wrong : 2 < length s → getD s 0 0 ≡ 2 → (why : Refusal) → fieldsEnd (getD s 2 0) (drop 2 s) 1 ≡ refused why → Way s
+  length-wrong : 2 < length s → getD s 0 0 ≡ 2 → (read : ℕ) → fieldsEnd (getD s 2 0) (drop 2 s) 1 ≡ given read → (getD s 1 0 ≡ read → ⊥) → Way s
+  -- the fields end where the length byte says, after n bytes; then "two checksum bytes; end byte (2); checksum (4)"
+  no-end : Fields s → length s < getD s 1 0 + 5 → Way s
+  end-wrong : Fields s → getD s 1 0 + 5 ≤ length s → (getD s (getD s 1 0 + 4) 0 ≡ 3 → ⊥) → Way s
+  sum-wrong : Fields s → getD s 1 0 + 5 ≤ length s → getD s (getD s 1 0 + 4) 0 ≡ 3 → (carried s ≡ summed s → ⊥) → Way s
+  good : Fields s → getD s 1 0 + 5 ≤ length s → getD s (getD s 1 0 + 4) 0 ≡ 3 → carried s ≡ summed s → Way s
+
+-- and what it then answers
+abbrev pub answerOf : {s : List ℕ} → Way s → Answer ℕ
+answerOf (no-start h) = refused incompleteData
+answerOf (start-wrong h differs) = refused invalidFrame
+answerOf (no-length h start past) = refused incompleteData
+answerOf (no-id h start past) = refused incompleteData
+answerOf (fields-wrong h start why e) = refused why
+answerOf (length-wrong h start read e differs) = refused invalidFrame
+answerOf (no-end f past) = refused incompleteData
+answerOf (end-wrong f there differs) = refused invalidFrame
+answerOf {s} (sum-wrong f there end differs) = refused (checksumMismatch (carried s) (summed s))
+answerOf {s} (good f there end same) = given (getD s 1 0 + 5)
+
+-- Every slice goes one of the ways, and is answered as that way says: so each refusal comes exactly where document 01 says.
 pub record DecodeRefuses (s : List ℕ) : Type 0 where
-  pub no-start : length s ≤ 0 → decodeOf s .answer ≡ refused incompleteData
-  pub start-wrong : 0 < length s → (getD s 0 0 ≡ 2 → ⊥) → decodeOf s .answer ≡ refused invalidFrame
-  pub no-length : 0 < length s → getD s 0 0 ≡ 2 → length s ≤ 1 → decodeOf s .answer ≡ refused incompleteData
-  pub no-id : 1 < length s → getD s 0 0 ≡ 2 → length s ≤ 2 → decodeOf s .answer ≡ refused incompleteData
+  pub goes : Way s
+  pub answer : (way : Way s) → decodeOf s .answer ≡ answerOf way
   -- "id (3 if not one of the seven replies, known command ids included)"
   pub unknown-id : 2 < length s → getD s 0 0 ≡ 2 → NoneOf replyIds (getD s 2 0) → decodeOf s .answer ≡ refused (unknownPacket (getD s 2 0))
-  -- that one, a field past the end, or a name without NUL
-  pub fields-wrong : 2 < length s → getD s 0 0 ≡ 2 → (why : Refusal) → fieldsEnd (getD s 2 0) (drop 2 s) 1 ≡ refused why → decodeOf s .answer ≡ refused why
-  pub length-wrong : 2 < length s → getD s 0 0 ≡ 2 → (read : ℕ) → fieldsEnd (getD s 2 0) (drop 2 s) 1 ≡ given read → (getD s 1 0 ≡ read → ⊥)
-      → decodeOf s .answer ≡ refused invalidFrame
-  -- the fields end where the length byte says, after n bytes; then "two checksum bytes; end byte (2); checksum (4)"
-  pub no-end : Fields s → length s < getD s 1 0 + 5 → decodeOf s .answer ≡ refused incompleteData
-  pub end-wrong : Fields s → getD s 1 0 + 5 ≤ length s → (getD s (getD s 1 0 + 4) 0 ≡ 3 → ⊥) → decodeOf s .answer ≡ refused invalidFrame
-  pub sum-wrong : Fields s → getD s 1 0 + 5 ≤ length s → getD s (getD s 1 0 + 4) 0 ≡ 3 → (carried s ≡ summed s → ⊥)
-      → decodeOf s .answer ≡ refused (checksumMismatch (carried s) (summed s))
-  pub good : Fields s → getD s 1 0 + 5 ≤ length s → getD s (getD s 1 0 + 4) 0 ≡ 3 → carried s ≡ summed s → decodeOf s .answer ≡ given (getD s 1 0 + 5)
   -- "all of them on a refusal": the reply is then the empty one
   pub empty : (why : Refusal) → decodeOf s .answer ≡ refused why → decodeOf s .reply ≡ emptyReply
 
