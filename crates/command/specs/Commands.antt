@@ -39,6 +39,7 @@ bytesOf (GetValuesSelective mask) = 50 ∷ bigEndian 4 mask
 bytesOf (GetValuesSetupSelective mask) = 51 ∷ bigEndian 4 mask
 bytesOf (SetCurrentRel current) = 84 ∷ scaledBytes 100000 current
 bytesOf (SetOdometer odometer) = 110 ∷ bigEndian 4 odometer
+-- "the command's own mask is 16 bits"
 bytesOf (GetStats mask) = 128 ∷ bigEndian 2 mask
 bytesOf (ResetStats ack) = 129 ∷ flagByte ack ∷ []
 bytesOf (Shutdown force restart) = 156 ∷ flagByte force ∷ flagByte restart ∷ []

@@ -11,3 +11,4 @@ pub mod OwnBytes
 pub mod Longest
 pub mod Unique
 pub mod Frames
+pub mod Refusals

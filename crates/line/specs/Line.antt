@@ -89,6 +89,7 @@ module _ {R : Type 0} where
     unfoldable pub nextGiven : Line → Bool
     nextGiven line = isFound (search judge (line .unread))
 
+    -- the bytes of the frame given; "A count beside a refusal is 0"
     unfoldable pub nextCount : Line → ℕ
     nextCount line = sizeFound (search judge (line .unread))
 

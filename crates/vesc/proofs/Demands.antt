@@ -6,8 +6,8 @@ use native.Mathlib.Omega.{arith}
 use lib.ListN.{length, getD, take, drop}
 use mathlib.Core.Bool.{Bool, true, false, not}
 use lib.Dec.{T, ltb, eqb, ltb→lt, nltb→le}
-use mathlib.Core.Logic.{_↔_}
-use borrow.Author.Tests.{ne-eqb, eqb-true, eqb-false}
+use mathlib.Core.Logic.{_↔_, inl, inr}
+use borrow.Author.Tests.{eq-eqb, ne-eqb, eqb-true, eqb-false}
 use Rattle.refusals.specs.Refusals.{Refusal, Answer, given, refused, incompleteData, invalidFrame, unknownPacket, checksumMismatch, bufferTooSmall, payloadTooLong}
 use Rattle.refusals.proofs.Different.{none}
 use Rattle.checksum.specs.Xmodem.{checksumOf}
@@ -24,12 +24,14 @@ use Rattle.frame.proofs.Tests.{answer-too-long, answer-too-small, answer-fits}
 use Rattle.command.specs.declared.Command.{Command}
 use Rattle.frame.specs.declared.Encoded.{Encoded}
 use Rattle.envelope.specs.Envelope.{judgeOf, fieldsEnd, finishOf, judgeSumOf, payloadPart}
+use Rattle.fields.specs.Fields.{valuesTable, setupTable, statsTable}
 use Rattle.envelope.proofs.Order as order
+use Rattle.envelope.proofs.Refusals.{OneOrTwo, masked-plain, get-values-plain, fw-version-plain, fw-info-plain}
 use Rattle.envelope.proofs.Good.{good-judged}
 use Rattle.reply.specs.Decode.{replyBy, decodeOf}
 use Rattle.reply.specs.Reply.{emptyReply}
 use Rattle.decoder.proofs.DemandThree as stream
-use Rattle.vesc.specs.Demands.{EncodeRefuses, DecodeRefuses, Fields, NoneOf, replyIds, Way, no-start, start-wrong, no-length, no-id, fields-wrong, length-wrong, no-end, end-wrong, sum-wrong, good, answerOf, DemandOne, DemandTwo, DemandThree, carried, summed}
+use Rattle.vesc.specs.Demands.{EncodeRefuses, DecodeRefuses, Fields, NoneOf, replyIds, Way, no-start, start-wrong, no-length, no-id, unknown-id, no-field, no-nul, length-wrong, no-end, end-wrong, sum-wrong, good, answerOf, DemandOne, DemandTwo, DemandThree, carried, summed}
 
 -- ---- a fact or its other side
 by-order : {C : Type 0} (a b : ℕ) → (a < b → C) → (b ≤ a → C) → C
@@ -45,6 +47,19 @@ by-equality {C} a b same differs = go (eqb a b) refl
     go : (t : Bool) → eqb a b ≡ t → C
     go true e = same (eqb-true a b e)
     go false e = differs (eqb-false a b e)
+
+-- ---- an id of a reply, whose fields are refused with 1 or 2, or of none
+by-reply : {C : Type 0} (id : ℕ) (part : List ℕ) (at : ℕ) → (OneOrTwo (fieldsEnd id part at) → C) → (NoneOf replyIds id → C) → C
+unfolding fieldsEnd
+by-reply id part at known none-of =
+    by-equality id 0 (λ e. known (rw (eq-eqb id 0 e) (fw-version-plain .plain part at))) (λ a.
+    by-equality id 4 (λ e. known (rw (ne-eqb id 0 a, eq-eqb id 4 e) (get-values-plain .plain part at))) (λ b.
+    by-equality id 50 (λ e. known (rw (ne-eqb id 0 a, ne-eqb id 4 b, eq-eqb id 50 e) (masked-plain valuesTable .plain part at))) (λ c.
+    by-equality id 51 (λ e. known (rw (ne-eqb id 0 a, ne-eqb id 4 b, ne-eqb id 50 c, eq-eqb id 51 e) (masked-plain setupTable .plain part at))) (λ d.
+    by-equality id 128 (λ e. known (rw (ne-eqb id 0 a, ne-eqb id 4 b, ne-eqb id 50 c, ne-eqb id 51 d, eq-eqb id 128 e) (masked-plain statsTable .plain part at))) (λ f.
+    by-equality id 129 (λ e. known (rw (ne-eqb id 0 a, ne-eqb id 4 b, ne-eqb id 50 c, ne-eqb id 51 d, ne-eqb id 128 f, eq-eqb id 129 e) tt)) (λ g.
+    by-equality id 157 (λ e. known (rw (ne-eqb id 0 a, ne-eqb id 4 b, ne-eqb id 50 c, ne-eqb id 51 d, ne-eqb id 128 f, ne-eqb id 129 g, eq-eqb id 157 e) (fw-info-plain .plain part at))) (λ h.
+    none-of (a, (b, (c, (d, (f, (g, (h, tt))))))))))))))
 
 -- ---- two answers are not one
 abbrev numberOf : Answer ℕ → ℕ
@@ -134,7 +149,7 @@ module _ (s : List ℕ) where
       by-order 0 (length s)
       (λ one. by-equality (getD s 0 0) 2
       (λ start. by-order 1 (length s)
-      (λ two. by-order 2 (length s) (λ three. after-id three start _ refl) (no-id two start))
+      (λ two. by-order 2 (length s) (λ three. after-id three start) (no-id two start))
       (no-length one start))
       (start-wrong one))
       no-start
@@ -146,19 +161,25 @@ module _ (s : List ℕ) where
           (λ end. by-equality (carried s) (summed s) (good f there end) (sum-wrong f there end))
           (end-wrong f there))
 
-      after-id : 2 < length s → getD s 0 0 ≡ 2 → (a : Answer ℕ) → fieldsEnd (getD s 2 0) (drop 2 s) 1 ≡ a → Way s
-      after-id three start (refused why) e = fields-wrong three start why e
-      after-id three start (given read) e =
+      after-fields : 2 < length s → getD s 0 0 ≡ 2 → (a : Answer ℕ) → fieldsEnd (getD s 2 0) (drop 2 s) 1 ≡ a → OneOrTwo a → Way s
+      after-fields three start (refused why) e (inl one) = no-field three start (e ∙ ap refused one)
+      after-fields three start (refused why) e (inr two) = no-nul three start (e ∙ ap refused two)
+      after-fields three start (given read) e _ =
           by-equality (getD s 1 0) read
           (λ same. after-sum (record { there = three; start = start; read = e ∙ ap given (sym same) }))
           (length-wrong three start read e)
+
+      after-id : 2 < length s → getD s 0 0 ≡ 2 → Way s
+      after-id three start = by-reply (getD s 2 0) (drop 2 s) 1 (after-fields three start _ refl) (unknown-id three start)
 
   answer : (way : Way s) → judgeOf s ≡ answerOf way
   answer (no-start h) = sym (order.no-start s h)
   answer (start-wrong h differs) = sym (order.start-wrong s h differs)
   answer (no-length h start past) = sym (order.no-length s start h past)
   answer (no-id h start past) = sym (order.no-id s start h past)
-  answer (fields-wrong h start why e) = fields-refused h start why e
+  answer (unknown-id h start none-of) = fields-refused h start _ (no-reply none-of)
+  answer (no-field h start e) = fields-refused h start incompleteData e
+  answer (no-nul h start e) = fields-refused h start invalidFrame e
   answer (length-wrong h start read e differs) = sym (order.length-wrong s start h (getD s 1 0) refl read (fields-at h (given read) e) differs)
   answer (no-end f past) = end-missing f past
   answer (end-wrong f there differs) = end-is-wrong f there differs
@@ -167,7 +188,7 @@ module _ (s : List ℕ) where
 
   decode-refuses : DecodeRefuses s
   unfolding decodeOf
-  decode-refuses = record { goes = goes; answer = answer; unknown-id = λ h start none-of. fields-refused h start _ (no-reply none-of); empty = empty-by }
+  decode-refuses = record { goes = goes; answer = answer; empty = empty-by }
 
 pub demand-one : DemandOne
 demand-one = record { encode = encode-refuses; decode = decode-refuses }

@@ -68,8 +68,11 @@ pub data Way (s : List ℕ) : Type 0 where
   start-wrong : 0 < length s → (getD s 0 0 ≡ 2 → ⊥) → Way s
   no-length : 0 < length s → getD s 0 0 ≡ 2 → length s ≤ 1 → Way s
   no-id : 1 < length s → getD s 0 0 ≡ 2 → length s ≤ 2 → Way s
-  -- an id that is no reply's, a field past the end, or a name without NUL
-  fields-wrong : 2 < length s → getD s 0 0 ≡ 2 → (why : Refusal) → fieldsEnd (getD s 2 0) (drop 2 s) 1 ≡ refused why → Way s
+  -- "id (3 if not one of the seven replies, known command ids included)"
+  unknown-id : 2 < length s → getD s 0 0 ≡ 2 → NoneOf replyIds (getD s 2 0) → Way s
+  -- "A read past the end of the slice is 1"; "2 for a name without NUL"
+  no-field : 2 < length s → getD s 0 0 ≡ 2 → fieldsEnd (getD s 2 0) (drop 2 s) 1 ≡ refused incompleteData → Way s
+  no-nul : 2 < length s → getD s 0 0 ≡ 2 → fieldsEnd (getD s 2 0) (drop 2 s) 1 ≡ refused invalidFrame → Way s
   length-wrong : 2 < length s → getD s 0 0 ≡ 2 → (read : ℕ) → fieldsEnd (getD s 2 0) (drop 2 s) 1 ≡ given read → (getD s 1 0 ≡ read → ⊥) → Way s
   -- the fields end where the length byte says, after n bytes; then "two checksum bytes; end byte (2); checksum (4)"
   no-end : Fields s → length s < getD s 1 0 + 5 → Way s
@@ -83,7 +86,9 @@ answerOf (no-start h) = refused incompleteData
 answerOf (start-wrong h differs) = refused invalidFrame
 answerOf (no-length h start past) = refused incompleteData
 answerOf (no-id h start past) = refused incompleteData
-answerOf (fields-wrong h start why e) = refused why
+answerOf {s} (unknown-id h start none-of) = refused (unknownPacket (getD s 2 0))
+answerOf (no-field h start e) = refused incompleteData
+answerOf (no-nul h start e) = refused invalidFrame
 answerOf (length-wrong h start read e differs) = refused invalidFrame
 answerOf (no-end f past) = refused incompleteData
 answerOf (end-wrong f there differs) = refused invalidFrame
@@ -94,8 +99,6 @@ answerOf {s} (good f there end same) = given (getD s 1 0 + 5)
 pub record DecodeRefuses (s : List ℕ) : Type 0 where
   pub goes : Way s
   pub answer : (way : Way s) → decodeOf s .answer ≡ answerOf way
-  -- "id (3 if not one of the seven replies, known command ids included)"
-  pub unknown-id : 2 < length s → getD s 0 0 ≡ 2 → NoneOf replyIds (getD s 2 0) → decodeOf s .answer ≡ refused (unknownPacket (getD s 2 0))
   -- "all of them on a refusal": the reply is then the empty one
   pub empty : (why : Refusal) → decodeOf s .answer ≡ refused why → decodeOf s .reply ≡ emptyReply
 
