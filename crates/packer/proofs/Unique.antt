@@ -3,6 +3,8 @@
 use mathlib.Core.Path.{_≡_, refl, sym, ap, _∙_}
 use mathlib.Core.List.{List}
 use Prim.Native.Nat.{ℕ}
+use Rattle.refusals.specs.Refusals.{Answer}
+use Rattle.refusals.specs.declared.DecodeError.{DecodeError}
 use Rattle.refusals.proofs.Unique.{told-apart, readBack, writeBack, decode-back, encode-back}
 use Rattle.packer.specs.Reading.{unpackedU8, unpackedU16, unpackedU32, unpackedI16, unpackedI32, unpackedF32, consumed, UuidAt}
 use Rattle.packer.specs.Writing.{packed, Packs}
@@ -24,53 +26,57 @@ use Rattle.packer.specs.declared.Consumed.the-variants as c
 use Rattle.packer.specs.declared.Packed.{Packed}
 use Rattle.packer.specs.declared.Packed.the-variants as p
 
-u8-back : (a : UnpackedU8) → readBack (λ v. u8.Got (v .0) (v .1)) u8.Refused (unpackedU8 a) ≡ a
+-- a value beside the place after it
+abbrev placedBack : {A R : Type 0} → (A → ℕ → R) → (DecodeError → R) → Answer (A × ℕ) → R
+placedBack got err = readBack (λ v. got (v .0) (v .1)) err
+
+u8-back : (a : UnpackedU8) → placedBack u8.Got u8.Refused (unpackedU8 a) ≡ a
 unfolding readBack
 u8-back (u8.Got value next) = refl
 u8-back (u8.Refused e) = ap u8.Refused (decode-back e)
 
 pub u8-unique : (a b : UnpackedU8) → unpackedU8 a ≡ unpackedU8 b → a ≡ b
-u8-unique = told-apart unpackedU8 (readBack (λ v. u8.Got (v .0) (v .1)) u8.Refused) u8-back
+u8-unique = told-apart unpackedU8 (placedBack u8.Got u8.Refused) u8-back
 
-u16-back : (a : UnpackedU16) → readBack (λ v. u16.Got (v .0) (v .1)) u16.Refused (unpackedU16 a) ≡ a
+u16-back : (a : UnpackedU16) → placedBack u16.Got u16.Refused (unpackedU16 a) ≡ a
 unfolding readBack
 u16-back (u16.Got value next) = refl
 u16-back (u16.Refused e) = ap u16.Refused (decode-back e)
 
 pub u16-unique : (a b : UnpackedU16) → unpackedU16 a ≡ unpackedU16 b → a ≡ b
-u16-unique = told-apart unpackedU16 (readBack (λ v. u16.Got (v .0) (v .1)) u16.Refused) u16-back
+u16-unique = told-apart unpackedU16 (placedBack u16.Got u16.Refused) u16-back
 
-u32-back : (a : UnpackedU32) → readBack (λ v. u32.Got (v .0) (v .1)) u32.Refused (unpackedU32 a) ≡ a
+u32-back : (a : UnpackedU32) → placedBack u32.Got u32.Refused (unpackedU32 a) ≡ a
 unfolding readBack
 u32-back (u32.Got value next) = refl
 u32-back (u32.Refused e) = ap u32.Refused (decode-back e)
 
 pub u32-unique : (a b : UnpackedU32) → unpackedU32 a ≡ unpackedU32 b → a ≡ b
-u32-unique = told-apart unpackedU32 (readBack (λ v. u32.Got (v .0) (v .1)) u32.Refused) u32-back
+u32-unique = told-apart unpackedU32 (placedBack u32.Got u32.Refused) u32-back
 
-i16-back : (a : UnpackedI16) → readBack (λ v. i16.Got (v .0) (v .1)) i16.Refused (unpackedI16 a) ≡ a
+i16-back : (a : UnpackedI16) → placedBack i16.Got i16.Refused (unpackedI16 a) ≡ a
 unfolding readBack
 i16-back (i16.Got value next) = refl
 i16-back (i16.Refused e) = ap i16.Refused (decode-back e)
 
 pub i16-unique : (a b : UnpackedI16) → unpackedI16 a ≡ unpackedI16 b → a ≡ b
-i16-unique = told-apart unpackedI16 (readBack (λ v. i16.Got (v .0) (v .1)) i16.Refused) i16-back
+i16-unique = told-apart unpackedI16 (placedBack i16.Got i16.Refused) i16-back
 
-i32-back : (a : UnpackedI32) → readBack (λ v. i32.Got (v .0) (v .1)) i32.Refused (unpackedI32 a) ≡ a
+i32-back : (a : UnpackedI32) → placedBack i32.Got i32.Refused (unpackedI32 a) ≡ a
 unfolding readBack
 i32-back (i32.Got value next) = refl
 i32-back (i32.Refused e) = ap i32.Refused (decode-back e)
 
 pub i32-unique : (a b : UnpackedI32) → unpackedI32 a ≡ unpackedI32 b → a ≡ b
-i32-unique = told-apart unpackedI32 (readBack (λ v. i32.Got (v .0) (v .1)) i32.Refused) i32-back
+i32-unique = told-apart unpackedI32 (placedBack i32.Got i32.Refused) i32-back
 
-f32-back : (a : UnpackedF32) → readBack (λ v. f32.Got (v .0) (v .1)) f32.Refused (unpackedF32 a) ≡ a
+f32-back : (a : UnpackedF32) → placedBack f32.Got f32.Refused (unpackedF32 a) ≡ a
 unfolding readBack
 f32-back (f32.Got value next) = refl
 f32-back (f32.Refused e) = ap f32.Refused (decode-back e)
 
 pub f32-unique : (a b : UnpackedF32) → unpackedF32 a ≡ unpackedF32 b → a ≡ b
-f32-unique = told-apart unpackedF32 (readBack (λ v. f32.Got (v .0) (v .1)) f32.Refused) f32-back
+f32-unique = told-apart unpackedF32 (placedBack f32.Got f32.Refused) f32-back
 
 consumed-back : (a : Consumed) → readBack c.To c.Refused (consumed a) ≡ a
 unfolding readBack
