@@ -43,7 +43,7 @@ pub struct Figures {
     pub fed: u64,
     pub handed: u64,
     pub passed: u64,
-    pub held: usize,
+    pub held: u64,
 }
 
 // Where a search of the unread bytes ends: the bytes moved over, and the count of a good frame.
@@ -253,11 +253,12 @@ impl Decoder {
     }
 
     // The bytes unread now.
-    pub fn held(self) -> usize
+    pub fn held(self) -> u64
         ensures { λ r. ⌜ r ≡ heldOf (lineOf self) ⌝ }
     {
         let decoder = self.settled();
-        decoder.wpos - decoder.rpos
+        let unread = decoder.wpos - decoder.rpos;
+        unread as u64
     }
 
     // The line figures as they stand now.
@@ -265,11 +266,12 @@ impl Decoder {
         ensures { λ r. ⌜ r ≡ figuresOf (lineOf self) ⌝ }
     {
         let decoder = self.settled();
+        let unread = decoder.wpos - decoder.rpos;
         Figures {
             fed: decoder.fed,
             handed: decoder.handed,
             passed: decoder.passed,
-            held: decoder.wpos - decoder.rpos,
+            held: unread as u64,
         }
     }
 }

@@ -29,7 +29,7 @@ pub(crate) fn worked() {
     if !answer.given {
         io::write_all(STDOUT_FILENO, b"nothing given, ");
     }
-    io::print_decimal(STDOUT_FILENO, after.held() as u64);
+    io::print_decimal(STDOUT_FILENO, after.held());
     io::write_all(STDOUT_FILENO, b" held; the reply comes at byte ");
     io::print_decimal(STDOUT_FILENO, reply_at(after) as u64);
     io::write_all(STDOUT_FILENO, b"\n");

@@ -8,8 +8,8 @@ use Rattle.decoder.proofs.Decoder.figures.Tie as tie
 settled-requires : tie.Need-settled-requires
 settled-requires c κs = search needs
 
-sub-t3 : tie.Need-sub-t3
-sub-t3 c = search needs
+sub-unread : tie.Need-sub-unread
+sub-unread c = search needs
 
 returns : tie.Need-returns
 returns c =
@@ -19,4 +19,4 @@ returns c =
     λ i. record { fed = line i .fed; handed = line i .handed; passed = line i .passed; held = held i }
 
 pub figures-spec : {M : Type 1} → statement M
-figures-spec = tie.close (tie.spec settled-requires sub-t3 returns)
+figures-spec = tie.close (tie.spec settled-requires sub-unread returns)

@@ -7,11 +7,11 @@ use Rattle.decoder.proofs.Decoder.held.Tie as tie
 settled-requires : tie.Need-settled-requires
 settled-requires c κs = search needs
 
-sub-result : tie.Need-sub-result
-sub-result c = search needs
+sub-unread : tie.Need-sub-unread
+sub-unread c = search needs
 
 returns : tie.Need-returns
 returns c = held-line (c .before .settled .result) _ (c .before .settled .ensures)
 
 pub held-spec : {M : Type 1} → statement M
-held-spec = tie.close (tie.spec settled-requires sub-result returns)
+held-spec = tie.close (tie.spec settled-requires sub-unread returns)
