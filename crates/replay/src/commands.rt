@@ -1,10 +1,10 @@
-// The cases of `encode`: the command's place in a list, its number's bits, the buffer's length, the number
-// of hops, and the hops. The buffer holds A5 everywhere, so that what is not written shows.
+// The cases of `encode`: the command's place in a list, its number's bits, the buffer's length, and the
+// hops. The buffer holds A5 everywhere, so that what is not written shows.
 ghost use Prim.Native.Nat.{_<_};
 use crate::shows;
+use crate::shows::Line;
 use command::Command;
 use frame::Encoded;
-use libc::STDOUT_FILENO;
 use packer::UnpackedI32;
 use packer::UnpackedU16;
 use packer::UnpackedU32;
@@ -69,28 +69,30 @@ fn plain(place: u8, n: Number) -> Command {
     }
 }
 
-fn encoded(answer: Encoded, buf: &[u8]) {
+fn count(text: &mut [u8], line: Line, answer: Encoded) -> Line {
     match answer {
-        Encoded::Written(count) => {
-            shows::given();
-            io::print_decimal(STDOUT_FILENO, count as u64);
-        }
-        Encoded::Refused(e) => shows::refused(e.number()),
+        Encoded::Written(count) => shows::given(text, line, count),
+        Encoded::Refused(e) => shows::refused(text, line, e.number()),
     }
-    shows::word(shows::digest(buf));
 }
 
-pub(crate) fn case(case: &[u8]) {
-    if case.len() < 9 {
-        return;
+fn encoded(text: &mut [u8], line: Line, answer: Encoded, buf: &[u8]) -> Line {
+    let told = count(text, line, answer);
+    let mixed = shows::mix_bytes(text, told, buf);
+    shows::digest(text, mixed)
+}
+
+pub(crate) fn case(text: &mut [u8], line: Line, case: &[u8]) -> Line {
+    if case.len() < 7 {
+        return shows::cut_short(text, line);
     }
     let room = length_at(case, 5);
     let sent = plain(case[0], number_of(case));
     let mut space = shows::untouched();
     if 1024 < room {
-        return;
+        return shows::say(text, line, b" too much room");
     }
     let buf = &mut space[..room];
-    let answer = frame::encode(sent, &case[9..], buf);
-    encoded(answer, buf);
+    let answer = frame::encode(sent, &case[7..], buf);
+    encoded(text, line, answer, buf)
 }

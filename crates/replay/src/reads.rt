@@ -1,6 +1,6 @@
 // The readers' cases: a scale's bits, a position, and the slice that is read.
 use crate::shows;
-use libc::STDOUT_FILENO;
+use crate::shows::Line;
 use names::Scan;
 use packer::Consumed;
 use packer::UnpackedF32;
@@ -9,6 +9,7 @@ use packer::UnpackedI32;
 use packer::UnpackedU8;
 use packer::UnpackedU16;
 use packer::UnpackedU32;
+use refusals::DecodeError;
 
 // The bits of a signed number, by way of the bytes that it is written as.
 pub(crate) fn bits_of(value: i32) -> u32 {
@@ -20,116 +21,131 @@ pub(crate) fn bits_of(value: i32) -> u32 {
     }
 }
 
-fn u8_at(slice: &[u8], pos: usize) {
-    match packer::unpack_u8(slice, pos) {
-        UnpackedU8::Got(value, next) => shows::number(value as u32, next),
-        UnpackedU8::Refused(e) => shows::refused(e.number()),
-    }
+// The position after a number that was read, and its bits.
+pub(crate) fn number(text: &mut [u8], line: Line, bits: u32, next: usize) -> Line {
+    let now = shows::given(text, line, next);
+    shows::word(text, now, bits)
 }
 
-fn u16_at(slice: &[u8], pos: usize) {
-    match packer::unpack_u16(slice, pos) {
-        UnpackedU16::Got(value, next) => shows::number(value as u32, next),
-        UnpackedU16::Refused(e) => shows::refused(e.number()),
-    }
+pub(crate) fn refused(text: &mut [u8], line: Line, e: DecodeError) -> Line {
+    shows::refused(text, line, e.number())
 }
 
-fn u32_at(slice: &[u8], pos: usize) {
-    match packer::unpack_u32(slice, pos) {
-        UnpackedU32::Got(value, next) => shows::number(value, next),
-        UnpackedU32::Refused(e) => shows::refused(e.number()),
-    }
-}
-
-fn i16_at(slice: &[u8], pos: usize) {
-    match packer::unpack_i16(slice, pos) {
-        UnpackedI16::Got(value, next) => shows::number(bits_of(value as i32), next),
-        UnpackedI16::Refused(e) => shows::refused(e.number()),
-    }
-}
-
-fn i32_at(slice: &[u8], pos: usize) {
-    match packer::unpack_i32(slice, pos) {
-        UnpackedI32::Got(value, next) => shows::number(bits_of(value), next),
-        UnpackedI32::Refused(e) => shows::refused(e.number()),
-    }
-}
-
-fn float(read: UnpackedF32) {
+pub(crate) fn read_u8(text: &mut [u8], line: Line, read: UnpackedU8) -> Line {
     match read {
-        UnpackedF32::Got(value, next) => shows::float(value, next),
-        UnpackedF32::Refused(e) => shows::refused(e.number()),
+        UnpackedU8::Got(value, next) => number(text, line, value as u32, next),
+        UnpackedU8::Refused(e) => refused(text, line, e),
     }
 }
 
-// What was copied out of the slice, with the position after it or the refusal.
-fn copied(answer: Scan, bytes: &[u8]) {
-    match answer {
-        Scan::Found(next) => {
-            shows::given();
-            shows::bytes(bytes);
-            shows::position(next);
+fn read_u16(text: &mut [u8], line: Line, read: UnpackedU16) -> Line {
+    match read {
+        UnpackedU16::Got(value, next) => number(text, line, value as u32, next),
+        UnpackedU16::Refused(e) => refused(text, line, e),
+    }
+}
+
+pub(crate) fn read_u32(text: &mut [u8], line: Line, read: UnpackedU32) -> Line {
+    match read {
+        UnpackedU32::Got(value, next) => number(text, line, value, next),
+        UnpackedU32::Refused(e) => refused(text, line, e),
+    }
+}
+
+fn read_i16(text: &mut [u8], line: Line, read: UnpackedI16) -> Line {
+    match read {
+        UnpackedI16::Got(value, next) => number(text, line, bits_of(value as i32), next),
+        UnpackedI16::Refused(e) => refused(text, line, e),
+    }
+}
+
+fn read_i32(text: &mut [u8], line: Line, read: UnpackedI32) -> Line {
+    match read {
+        UnpackedI32::Got(value, next) => number(text, line, bits_of(value), next),
+        UnpackedI32::Refused(e) => refused(text, line, e),
+    }
+}
+
+pub(crate) fn read_f32(text: &mut [u8], line: Line, read: UnpackedF32) -> Line {
+    match read {
+        UnpackedF32::Got(value, next) => {
+            let now = shows::given(text, line, next);
+            shows::float(text, now, value)
         }
-        Scan::Refused(e) => shows::refused(e.number()),
+        UnpackedF32::Refused(e) => refused(text, line, e),
     }
 }
 
-fn name39_at(slice: &[u8], pos: usize) {
+fn position(text: &mut [u8], line: Line, answer: Scan) -> Line {
+    match answer {
+        Scan::Found(next) => shows::given(text, line, next),
+        Scan::Refused(e) => refused(text, line, e),
+    }
+}
+
+// What was copied out of the slice, on a refusal too: it must then be zeros.
+pub(crate) fn copied(text: &mut [u8], line: Line, answer: Scan, bytes: &[u8]) -> Line {
+    let now = position(text, line, answer);
+    shows::bytes(text, now, bytes)
+}
+
+fn name39_at(text: &mut [u8], line: Line, slice: &[u8], pos: usize) -> Line {
     let name = names::unpack_c_string_39(slice, pos);
     let bytes = name.bytes;
     let answer = name.answer;
-    copied(answer, &bytes);
+    copied(text, line, answer, &bytes)
 }
 
-fn name47_at(slice: &[u8], pos: usize) {
+fn name47_at(text: &mut [u8], line: Line, slice: &[u8], pos: usize) -> Line {
     let name = names::unpack_c_string_47(slice, pos);
     let bytes = name.bytes;
     let answer = name.answer;
-    copied(answer, &bytes);
+    copied(text, line, answer, &bytes)
 }
 
-fn uuid_at(slice: &[u8], pos: usize) {
+fn uuid_at(text: &mut [u8], line: Line, slice: &[u8], pos: usize) -> Line {
     let uuid = packer::unpack_uuid(slice, pos);
     let bytes = uuid.bytes;
     let answer = uuid.answer;
     match answer {
-        Consumed::To(next) => copied(Scan::Found(next), &bytes),
-        Consumed::Refused(e) => copied(Scan::Refused(e), &bytes),
+        Consumed::To(next) => copied(text, line, Scan::Found(next), &bytes),
+        Consumed::Refused(e) => copied(text, line, Scan::Refused(e), &bytes),
     }
 }
 
-fn one(letter: u8, scale: f32, pos: usize, slice: &[u8]) {
+fn one(text: &mut [u8], line: Line, letter: u8, scale: f32, pos: usize, slice: &[u8]) -> Line {
     match letter {
-        b'b' => u8_at(slice, pos),
-        b's' => u16_at(slice, pos),
-        b'u' => u32_at(slice, pos),
-        b't' => i16_at(slice, pos),
-        b'i' => i32_at(slice, pos),
-        b'h' => float(packer::unpack_f16(slice, pos, scale)),
-        b'w' => float(packer::unpack_f32(slice, pos, scale)),
-        b'F' => float(packer::unpack_f32_auto(slice, pos)),
-        b'n' => name39_at(slice, pos),
-        b'm' => name47_at(slice, pos),
-        _ => uuid_at(slice, pos),
+        b'b' => read_u8(text, line, packer::unpack_u8(slice, pos)),
+        b's' => read_u16(text, line, packer::unpack_u16(slice, pos)),
+        b'u' => read_u32(text, line, packer::unpack_u32(slice, pos)),
+        b't' => read_i16(text, line, packer::unpack_i16(slice, pos)),
+        b'i' => read_i32(text, line, packer::unpack_i32(slice, pos)),
+        b'h' => read_f32(text, line, packer::unpack_f16(slice, pos, scale)),
+        b'w' => read_f32(text, line, packer::unpack_f32(slice, pos, scale)),
+        b'F' => read_f32(text, line, packer::unpack_f32_auto(slice, pos)),
+        b'n' => name39_at(text, line, slice, pos),
+        b'm' => name47_at(text, line, slice, pos),
+        _ => uuid_at(text, line, slice, pos),
     }
 }
 
-pub(crate) fn case(letter: u8, case: &[u8]) {
+pub(crate) fn case(text: &mut [u8], line: Line, letter: u8, case: &[u8]) -> Line {
     if case.len() < 5 {
-        return;
+        return shows::cut_short(text, line);
     }
     match packer::unpack_f32_auto(case, 0) {
-        UnpackedF32::Got(scale, _) => one(letter, scale, shows::wide(case[4]), &case[5..]),
-        UnpackedF32::Refused(_) => shows::line_end(),
+        UnpackedF32::Got(scale, _) => {
+            one(text, line, letter, scale, shows::wide(case[4]), &case[5..])
+        }
+        UnpackedF32::Refused(_) => shows::cut_short(text, line),
     }
 }
 
 // The text of a name: the case is the name's bytes.
-pub(crate) fn text(name: &[u8]) {
+pub(crate) fn name_text(text: &mut [u8], line: Line, name: &[u8]) -> Line {
     if text::has_text(name) {
-        io::write_all(STDOUT_FILENO, b"text ");
-        shows::bytes(text::text(name));
-        return;
+        let now = shows::say(text, line, b" text");
+        return shows::bytes(text, now, text::text(name));
     }
-    io::write_all(STDOUT_FILENO, b"none");
+    shows::say(text, line, b" none")
 }

@@ -1,206 +1,201 @@
-// The cases of `decode`: a slice. A reply is shown by its id and a digest of every field as a word of 32
-// bits, in the order of the Rust's struct.
+// The cases of `decode`: a slice. A reply is its kind and every field of all five records as a word of 32
+// bits, in the order of the structs.
 use crate::reads;
 use crate::shows;
+use crate::shows::Line;
 use envelope::Judged;
 use firmware::FwInfo;
 use firmware::FwVersion;
-use libc::STDOUT_FILENO;
 use records::SetupValues;
 use records::Stats;
 use records::Values;
 use refusals::DecodeError;
 use reply::CommandReply;
-use reply::Kind;
 
 // A float by its bits; every NaN has the same.
-fn float(sum: u32, value: f32) -> u32 {
-    shows::mixed(sum, floats::f32_to_bits(value))
+fn bits(value: f32) -> u32 {
+    floats::f32_to_bits(value)
 }
 
-fn signed(sum: u32, value: i32) -> u32 {
-    shows::mixed(sum, reads::bits_of(value))
+fn flag(value: bool) -> u32 {
+    if value { 1 } else { 0 }
 }
 
-fn byte(sum: u32, value: u8) -> u32 {
-    shows::mixed(sum, value as u32)
+fn byte(value: u8) -> u32 {
+    value as u32
 }
 
-fn flag(sum: u32, value: bool) -> u32 {
-    if value {
-        shows::mixed(sum, 1)
-    } else {
-        shows::mixed(sum, 0)
-    }
-}
-
-fn words(sum: u32, bytes: &[u8]) -> u32 {
-    let mut all = sum;
-    let mut at = 0;
-    while at < bytes.len() {
-        all = byte(all, bytes[at]);
-        at += 1;
-    }
-    all
-}
-
-fn of_values(sum: u32, v: Values) -> u32 {
-    let currents = float(
-        float(
-            float(float(sum, v.temp_mosfet), v.temp_motor),
-            v.avg_current_motor,
-        ),
-        v.avg_current_input,
-    );
-    let speeds = float(
-        float(
-            float(float(currents, v.avg_current_d), v.avg_current_q),
-            v.duty_cycle,
-        ),
-        v.rpm,
-    );
-    let hours = float(
-        float(float(speeds, v.voltage_in), v.amp_hours),
-        v.amp_hours_charged,
-    );
-    let counts = float(float(hours, v.watt_hours), v.watt_hours_charged);
-    let turns = signed(signed(counts, v.tachometer), v.tachometer_abs);
+fn of_values(v: Values) -> [u32; 24] {
     let fault = v.fault_code;
-    let faults = byte(turns, kinds::fault_number(fault));
-    let place = byte(float(faults, v.pid_pos), v.controller_id);
-    let heat = float(
-        float(float(place, v.temp_mosfet1), v.temp_mosfet2),
-        v.temp_mosfet3,
-    );
-    byte(
-        float(float(heat, v.avg_voltage_d), v.avg_voltage_q),
-        v.status,
-    )
+    [
+        bits(v.temp_mosfet),
+        bits(v.temp_motor),
+        bits(v.avg_current_motor),
+        bits(v.avg_current_input),
+        bits(v.avg_current_d),
+        bits(v.avg_current_q),
+        bits(v.duty_cycle),
+        bits(v.rpm),
+        bits(v.voltage_in),
+        bits(v.amp_hours),
+        bits(v.amp_hours_charged),
+        bits(v.watt_hours),
+        bits(v.watt_hours_charged),
+        reads::bits_of(v.tachometer),
+        reads::bits_of(v.tachometer_abs),
+        byte(kinds::fault_number(fault)),
+        bits(v.pid_pos),
+        byte(v.controller_id),
+        bits(v.temp_mosfet1),
+        bits(v.temp_mosfet2),
+        bits(v.temp_mosfet3),
+        bits(v.avg_voltage_d),
+        bits(v.avg_voltage_q),
+        byte(v.status),
+    ]
 }
 
-fn of_setup_values(sum: u32, v: SetupValues) -> u32 {
-    let currents = float(
-        float(
-            float(float(sum, v.temp_mosfet), v.temp_motor),
-            v.avg_current_motor,
-        ),
-        v.avg_current_input,
-    );
-    let speeds = float(float(float(currents, v.duty_cycle), v.rpm), v.speed);
-    let hours = float(
-        float(
-            float(float(speeds, v.voltage_in), v.battery_level),
-            v.amp_hours,
-        ),
-        v.amp_hours_charged,
-    );
-    let ways = float(
-        float(
-            float(float(hours, v.watt_hours), v.watt_hours_charged),
-            v.distance,
-        ),
-        v.distance_abs,
-    );
+fn of_setup_values(v: SetupValues) -> [u32; 22] {
     let fault = v.fault_code;
-    let faults = byte(float(ways, v.pid_pos), kinds::fault_number(fault));
-    let left = float(
-        byte(byte(faults, v.controller_id), v.num_vescs),
-        v.watt_hours_battery_left,
-    );
-    shows::mixed(shows::mixed(left, v.odometer), v.uptime_ms)
+    [
+        bits(v.temp_mosfet),
+        bits(v.temp_motor),
+        bits(v.avg_current_motor),
+        bits(v.avg_current_input),
+        bits(v.duty_cycle),
+        bits(v.rpm),
+        bits(v.speed),
+        bits(v.voltage_in),
+        bits(v.battery_level),
+        bits(v.amp_hours),
+        bits(v.amp_hours_charged),
+        bits(v.watt_hours),
+        bits(v.watt_hours_charged),
+        bits(v.distance),
+        bits(v.distance_abs),
+        bits(v.pid_pos),
+        byte(kinds::fault_number(fault)),
+        byte(v.controller_id),
+        byte(v.num_vescs),
+        bits(v.watt_hours_battery_left),
+        v.odometer,
+        v.uptime_ms,
+    ]
 }
 
-fn of_stats(sum: u32, s: Stats) -> u32 {
-    let powers = float(
-        float(float(float(sum, s.speed_avg), s.speed_max), s.power_avg),
-        s.power_max,
-    );
-    let heat = float(
-        float(
-            float(float(powers, s.current_avg), s.current_max),
-            s.temp_mosfet_avg,
-        ),
-        s.temp_mosfet_max,
-    );
-    float(
-        float(float(heat, s.temp_motor_avg), s.temp_motor_max),
-        s.count_time,
-    )
+fn of_stats(s: Stats) -> [u32; 11] {
+    [
+        bits(s.speed_avg),
+        bits(s.speed_max),
+        bits(s.power_avg),
+        bits(s.power_max),
+        bits(s.current_avg),
+        bits(s.current_max),
+        bits(s.temp_mosfet_avg),
+        bits(s.temp_mosfet_max),
+        bits(s.temp_motor_avg),
+        bits(s.temp_motor_max),
+        bits(s.count_time),
+    ]
 }
 
-fn name(sum: u32, name: [u8; 39]) -> u32 {
-    words(sum, &name)
+fn mix_words_and_name(text: &mut [u8], line: Line, words: &[u32], name: [u8; 39]) -> Line {
+    let now = shows::mix_words(text, line, words);
+    shows::mix_bytes(text, now, &name)
 }
 
-fn of_fw_version(sum: u32, v: FwVersion) -> u32 {
+fn mix_name47(text: &mut [u8], line: Line, name: [u8; 47]) -> Line {
+    shows::mix_bytes(text, line, &name)
+}
+
+fn mix_uuid(text: &mut [u8], line: Line, uuid: [u8; 12]) -> Line {
+    shows::mix_bytes(text, line, &uuid)
+}
+
+fn mix_fw_version(text: &mut [u8], line: Line, v: FwVersion) -> Line {
     let hw_name = v.hw_name;
     let uuid = v.uuid;
     let fw_name = v.fw_name;
-    let named = words(name(byte(byte(sum, v.major), v.minor), hw_name), &uuid);
-    let tested = byte(flag(named, v.pairing_done), v.test_version_number);
     let hw = v.hw_type;
     let qml = v.qml_hw;
-    let configured = byte(byte(tested, kinds::hw_type_number(hw)), v.custom_config_num);
-    let filters = byte(
-        flag(configured, v.has_phase_filters),
-        kinds::qml_hw_number(qml),
-    );
-    let flags = byte(byte(filters, v.qml_app), v.nrf_flags);
-    shows::mixed(name(flags, fw_name), v.hw_crc)
+    let front = [byte(v.major), byte(v.minor)];
+    let middle = [
+        flag(v.pairing_done),
+        byte(v.test_version_number),
+        byte(kinds::hw_type_number(hw)),
+        byte(v.custom_config_num),
+        flag(v.has_phase_filters),
+        byte(kinds::qml_hw_number(qml)),
+        byte(v.qml_app),
+        byte(v.nrf_flags),
+    ];
+    let begun = mix_words_and_name(text, line, &front, hw_name);
+    let known = mix_uuid(text, begun, uuid);
+    let named = mix_words_and_name(text, known, &middle, fw_name);
+    shows::mix(text, named, v.hw_crc)
 }
 
-fn of_fw_info(sum: u32, v: FwInfo) -> u32 {
+fn mix_fw_info(text: &mut [u8], line: Line, v: FwInfo) -> Line {
     let commit_hash = v.commit_hash;
     let user_commit_hash = v.user_commit_hash;
-    let numbers = byte(byte(byte(sum, v.major), v.minor), v.test_version_number);
-    words(words(numbers, &commit_hash), &user_commit_hash)
+    let front = [byte(v.major), byte(v.minor), byte(v.test_version_number)];
+    let mut now = shows::mix_words(text, line, &front);
+    now = mix_name47(text, now, commit_hash);
+    mix_name47(text, now, user_commit_hash)
 }
 
-pub(crate) fn digest(reply: CommandReply) -> u32 {
+fn mix_telemetry(
+    text: &mut [u8],
+    line: Line,
+    values: Values,
+    setup_values: SetupValues,
+    stats: Stats,
+) -> Line {
+    let first = of_values(values);
+    let second = of_setup_values(setup_values);
+    let third = of_stats(stats);
+    let mut now = shows::mix_words(text, line, &first);
+    now = shows::mix_words(text, now, &second);
+    shows::mix_words(text, now, &third)
+}
+
+// Takes a whole reply into the digest: the records of other kinds too, so that one that is not empty shows.
+pub(crate) fn mix(text: &mut [u8], line: Line, reply: CommandReply) -> Line {
     let kind = reply.kind;
-    let sum = byte(0, kind.number());
-    let values = reply.values;
-    let setup_values = reply.setup_values;
-    let stats = reply.stats;
     let fw_version = reply.fw_version;
     let fw_info = reply.fw_info;
-    match kind {
-        Kind::FwVersion => of_fw_version(sum, fw_version),
-        Kind::GetValues => of_values(sum, values),
-        Kind::GetValuesSelective => of_values(sum, values),
-        Kind::GetValuesSetupSelective => of_setup_values(sum, setup_values),
-        Kind::GetStats => of_stats(sum, stats),
-        Kind::ResetStats => sum,
-        Kind::FwInfo => of_fw_info(sum, fw_info),
-    }
+    let mut now = shows::mix(text, line, byte(kind.number()));
+    now = mix_telemetry(text, now, reply.values, reply.setup_values, reply.stats);
+    now = mix_fw_version(text, now, fw_version);
+    mix_fw_info(text, now, fw_info)
 }
 
 // The values returned with a refusal.
-fn returned(e: DecodeError) {
-    shows::refused(e.number());
+fn returned(text: &mut [u8], line: Line, e: DecodeError) -> Line {
+    let now = shows::refused(text, line, e.number());
     match e {
-        DecodeError::IncompleteData => {}
-        DecodeError::InvalidFrame => {}
-        DecodeError::UnknownPacket { id } => shows::position(id as usize),
+        DecodeError::IncompleteData => now,
+        DecodeError::InvalidFrame => now,
+        DecodeError::UnknownPacket { id } => shows::decimal(text, now, id as u64),
         DecodeError::ChecksumMismatch { expected, actual } => {
-            shows::position(expected as usize);
-            shows::position(actual as usize);
+            let after = shows::decimal(text, now, expected as u64);
+            shows::decimal(text, after, actual as u64)
         }
     }
 }
 
-pub(crate) fn case(slice: &[u8]) {
+fn count(text: &mut [u8], line: Line, answer: Judged) -> Line {
+    match answer {
+        Judged::Good(count) => shows::given(text, line, count),
+        Judged::Refused(e) => returned(text, line, e),
+    }
+}
+
+pub(crate) fn case(text: &mut [u8], line: Line, slice: &[u8]) -> Line {
     let decoded = reply::decode(slice);
     let answer = decoded.answer;
     let reply = decoded.reply;
-    match answer {
-        Judged::Good(count) => {
-            let kind = reply.kind;
-            shows::given();
-            io::print_decimal(STDOUT_FILENO, count as u64);
-            shows::position(kind.number() as usize);
-            shows::word(digest(reply));
-        }
-        Judged::Refused(e) => returned(e),
-    }
+    let told = count(text, line, answer);
+    let mixed = mix(text, told, reply);
+    shows::digest(text, mixed)
 }

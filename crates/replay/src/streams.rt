@@ -1,63 +1,49 @@
-// The cases of `Decoder`: a stream is brought by one case, and each case after it runs the stream in one
-// cutting from a fresh decoder. oracle/answers/src/streams.rs does the same with the Rust's.
-ghost use Prim.Native.Nat.{_≤_, _<_};
+// The cases of `Decoder`: a stream is brought by one case, and each case after it makes calls on a fresh
+// decoder, in any order. Everything that a call answers, and the state that it leaves, goes into the digest.
+ghost use Prim.Native.Nat.{_≤_};
 ghost use lib.ListN.{length};
 use crate::replies;
 use crate::shows;
+use crate::shows::Line;
 use decoder::Decoder;
-use libc::STDOUT_FILENO;
+use decoder::Figures;
 use packer::UnpackedU16;
-use packer::UnpackedU32;
 
-// What a run has come to: the decoder, the digest of all that its calls answered, the replies given, and
-// the number that the next draw is made from.
+// What the calls have come to: the decoder, the answer's line, how many replies were given, and the place
+// in the stream from which the next piece is taken.
 struct Run {
     decoder: Decoder,
-    sum: u32,
+    line: Line,
     replies: u32,
-    seed: u32,
+    at: usize,
 }
 
-// How a case cuts: the size of its pieces (0: drawn), whether it asks until nothing comes after each, and
-// whether empty pieces stand among them.
-struct Cutting {
-    size: usize,
-    draining: bool,
-    empties: bool,
-}
-
-// Bits from the middle of the seed, below `n`.
-fn below(seed: u32, n: u32) -> u32
-    requires { ⌜ 0 < n ⌝ }
-    ensures { λ r. ⌜ r < n ⌝ }
-{
-    seed / 65536 % n
-}
-
-fn drawn(seed: u32) -> u32 {
-    let wide = (seed as u64) * 1664525 + 1013904223;
-    (wide % 4294967296) as u32
-}
-
-// The unread bytes of a buffer, as a digest.
-fn unread(buf: &[u8], rpos: usize, wpos: usize) -> u32 {
-    if buf.len() < wpos {
-        return 0;
+fn mix_unread(text: &mut [u8], line: Line, buf: [u8; 512], rpos: usize, wpos: usize) -> Line {
+    if 512 < wpos {
+        return line;
     }
     if wpos < rpos {
-        return 0;
+        return line;
     }
-    shows::digest(&buf[rpos..wpos])
+    shows::mix_bytes(text, line, &buf[rpos..wpos])
 }
 
-// The digest takes in the two positions and every unread byte.
-fn with_state(sum: u32, decoder: Decoder) -> u32 {
+fn mix_figures(text: &mut [u8], line: Line, figures: Figures) -> Line {
+    let mut now = shows::mix_wide(text, line, figures.fed);
+    now = shows::mix_wide(text, now, figures.handed);
+    now = shows::mix_wide(text, now, figures.passed);
+    shows::mix_wide(text, now, figures.held)
+}
+
+// The two positions, the line figures and every unread byte.
+fn mix_state(text: &mut [u8], line: Line, decoder: Decoder) -> Line {
     let buf = decoder.buf;
     let rpos = decoder.rpos;
     let wpos = decoder.wpos;
-    let read = shows::mixed(sum, (rpos % 4294967296) as u32);
-    let written = shows::mixed(read, (wpos % 4294967296) as u32);
-    shows::mixed(written, unread(&buf, rpos, wpos))
+    let mut now = shows::mix_wide(text, line, rpos as u64);
+    now = shows::mix_wide(text, now, wpos as u64);
+    now = mix_figures(text, now, decoder.figures());
+    mix_unread(text, now, buf, rpos, wpos)
 }
 
 struct Fed {
@@ -65,19 +51,20 @@ struct Fed {
     run: Run,
 }
 
-fn feed(run: Run, piece: &[u8]) -> Fed {
+fn feed(text: &mut [u8], run: Run, piece: &[u8]) -> Fed {
     let before = run.decoder;
     let answer = before.feed(piece);
     let decoder = answer.decoder;
     let count = answer.count;
-    let sum = with_state(shows::mixed(run.sum, (count % 4294967296) as u32), decoder);
+    let fed = shows::mix_wide(text, run.line, count as u64);
+    let line = mix_state(text, fed, decoder);
     Fed {
         count,
         run: Run {
             decoder,
-            sum,
+            line,
             replies: run.replies,
-            seed: run.seed,
+            at: run.at,
         },
     }
 }
@@ -87,41 +74,42 @@ struct Asked {
     run: Run,
 }
 
-fn next(run: Run) -> Asked {
+// The whole reply is taken in where none is given too: it must then be the empty one.
+fn next(text: &mut [u8], run: Run) -> Asked {
     let before = run.decoder;
     let answer = before.next();
     let decoder = answer.decoder;
     let reply = answer.reply;
-    if !answer.given {
-        let sum = with_state(run.sum, decoder);
-        return Asked {
-            given: false,
-            run: Run {
-                decoder,
-                sum,
-                replies: run.replies,
-                seed: run.seed,
-            },
-        };
+    let given = answer.given;
+    let count = answer.count;
+    let mut replies = run.replies;
+    let mut flag: u32 = 0;
+    if given {
+        replies = std::num::wrapping_add_u32(replies, 1);
+        flag = 1;
     }
-    let sum = with_state(shows::mixed(run.sum, replies::digest(reply)), decoder);
+    let mut line = shows::mix(text, run.line, flag);
+    line = shows::mix_wide(text, line, count as u64);
+    line = replies::mix(text, line, reply);
+    line = mix_state(text, line, decoder);
+    let at = run.at;
     Asked {
-        given: true,
+        given,
         run: Run {
             decoder,
-            sum,
-            replies: std::num::wrapping_add_u32(run.replies, 1),
-            seed: run.seed,
+            line,
+            replies,
+            at,
         },
     }
 }
 
 // Asks until nothing comes; 512 bytes hold fewer frames than the turns.
-fn drain(start: Run) -> Run {
+fn drain(text: &mut [u8], start: Run) -> Run {
     let mut run = start;
     let mut turns: usize = 512;
     while turns > 0 {
-        let asked = next(run);
+        let asked = next(text, run);
         let after = asked.run;
         run = after;
         if !asked.given {
@@ -132,148 +120,131 @@ fn drain(start: Run) -> Run {
     run
 }
 
-fn redrawn(run: Run) -> Run {
-    let decoder = run.decoder;
-    Run {
-        decoder,
-        sum: run.sum,
-        replies: run.replies,
-        seed: drawn(run.seed),
-    }
-}
-
-// An empty piece among the others, as the seed says.
-fn empty_piece(run: Run) -> Run {
-    let again = redrawn(run);
-    if below(again.seed, 4) == 0 {
-        let fed = feed(again, b"");
-        let after = fed.run;
-        return after;
-    }
-    again
-}
-
-// Asked once, as the seed says.
-fn asked_once(run: Run) -> Run {
-    let again = redrawn(run);
-    if below(again.seed, 2) == 0 {
-        let asked = next(again);
-        let after = asked.run;
-        return after;
-    }
-    again
-}
-
-struct Piece {
-    size: usize,
-    run: Run,
-}
-
-fn sized(cutting: Cutting, run: Run) -> Piece {
-    if cutting.size != 0 {
-        return Piece {
-            size: cutting.size,
-            run,
-        };
-    }
-    let again = redrawn(run);
-    let more = below(again.seed, 600);
-    Piece {
-        size: (more as usize) + 1,
-        run: again,
-    }
-}
-
 fn smaller(a: usize, b: usize) -> usize
     ensures { λ r. ⌜ r ≤ b ⌝ }
 {
     if a < b { a } else { b }
 }
 
-// One turn: an empty piece perhaps, a piece of the rest, and asking.
-fn turn(cutting: Cutting, start: Run, rest: &[u8]) -> Fed {
-    let mut run = start;
-    if cutting.empties {
-        run = empty_piece(run);
-    }
-    let wanted = sized(cutting, run);
-    let before = wanted.run;
-    let size = smaller(wanted.size, rest.len());
-    let fed = feed(before, &rest[..size]);
-    let mut after = fed.run;
-    if cutting.draining {
-        after = drain(after);
-    } else {
-        after = asked_once(after);
-    }
-    Fed {
-        count: fed.count,
-        run: after,
+fn feed_some(text: &mut [u8], run: Run, rest: &[u8], size: usize) -> Fed {
+    let end = smaller(size, rest.len());
+    feed(text, run, &rest[..end])
+}
+
+fn moved(run: Run, at: usize) -> Run {
+    let decoder = run.decoder;
+    let line = run.line;
+    Run {
+        decoder,
+        line,
+        replies: run.replies,
+        at,
     }
 }
 
-fn whole(cutting: Cutting, stream: &[u8], seed: u32) -> Run {
-    let mut now = Run {
-        decoder: Decoder::new(),
-        sum: 0,
-        replies: 0,
-        seed,
-    };
-    let mut at: usize = 0;
-    let mut turns = stream.len();
+// Bytes of the stream that are taken, or never offered.
+fn passed(run: Run, stream: &[u8], size: usize) -> Run {
+    let at = run.at;
+    if stream.len() < at {
+        return run;
+    }
+    if stream.len() - at < size {
+        return moved(run, stream.len());
+    }
+    moved(run, at + size)
+}
+
+// Bytes that are offered again.
+fn taken_back(run: Run, size: usize) -> Run {
+    let at = run.at;
+    if at < size {
+        return moved(run, 0);
+    }
+    moved(run, at - size)
+}
+
+// Offers the next `size` bytes of the stream, or as many as are left.
+fn feed_next(text: &mut [u8], run: Run, stream: &[u8], size: usize) -> Run {
+    let at = run.at;
+    if stream.len() < at {
+        return run;
+    }
+    let fed = feed_some(text, run, &stream[at..], size);
+    let after = fed.run;
+    passed(after, stream, fed.count)
+}
+
+fn call(text: &mut [u8], run: Run, stream: &[u8], code: u8, size: usize) -> Run {
+    match code {
+        0 => {
+            let asked = next(text, run);
+            let after = asked.run;
+            after
+        }
+        1 => drain(text, run),
+        2 => feed_next(text, run, stream, size),
+        3 => {
+            let fed = feed_next(text, run, stream, size);
+            drain(text, fed)
+        }
+        4 => passed(run, stream, size),
+        _ => taken_back(run, size),
+    }
+}
+
+fn repeated(text: &mut [u8], start: Run, stream: &[u8], code: u8, size: usize, times: usize) -> Run {
+    let mut run = start;
+    let mut turns = times;
     while turns > 0 {
-        if stream.len() <= at {
-            return now;
-        }
-        let fed = turn(cutting, now, &stream[at..]);
-        let after = fed.run;
-        now = after;
-        let count = fed.count;
-        if stream.len() - at < count {
-            return now;
-        }
-        at += count;
+        run = call(text, run, stream, code, size);
         turns -= 1;
     }
-    now
+    run
 }
 
-fn shown(end: Run) {
-    let decoder = end.decoder;
-    io::write_all(STDOUT_FILENO, b"replies ");
-    io::print_decimal(STDOUT_FILENO, end.replies as u64);
-    io::write_all(STDOUT_FILENO, b" unread ");
-    io::print_decimal(STDOUT_FILENO, decoder.held() as u64);
-    shows::word(end.sum);
-}
-
-pub(crate) fn case(case: &[u8], stream: &[u8]) {
-    if case.len() < 7 {
-        return;
-    }
-    let how = case[6];
-    let size = match packer::unpack_u16(case, 0) {
-        UnpackedU16::Got(size, _) => size,
+fn number_at(case: &[u8], pos: usize) -> usize {
+    match packer::unpack_u16(case, pos) {
+        UnpackedU16::Got(number, _) => number as usize,
         UnpackedU16::Refused(_) => 0,
+    }
+}
+
+// The calls of a case, five bytes each: a code, a size and how many times.
+fn all(text: &mut [u8], start: Run, stream: &[u8], calls: &[u8]) -> Run {
+    let mut run = start;
+    let mut at: usize = 0;
+    while at < calls.len() && 5 <= calls.len() - at {
+        let size = number_at(calls, at + 1);
+        let times = number_at(calls, at + 3);
+        run = repeated(text, run, stream, calls[at], size, times);
+        at += 5;
+    }
+    run
+}
+
+pub(crate) fn case(text: &mut [u8], line: Line, calls: &[u8], stream: &[u8]) -> Line {
+    if calls.len() % 5 != 0 {
+        return shows::cut_short(text, line);
+    }
+    let start = Run {
+        decoder: Decoder::new(),
+        line,
+        replies: 0,
+        at: 0,
     };
-    let seed = match packer::unpack_u32(case, 2) {
-        UnpackedU32::Got(seed, _) => seed,
-        UnpackedU32::Refused(_) => 0,
-    };
-    let cutting = Cutting {
-        size: size as usize,
-        draining: how % 2 == 1,
-        empties: how / 2 % 2 == 1,
-    };
-    shown(whole(cutting, stream, seed));
+    let end = all(text, start, stream, calls);
+    let decoder = end.decoder;
+    let mut now = shows::say(text, end.line, b" replies");
+    now = shows::decimal(text, now, end.replies as u64);
+    now = shows::say(text, now, b" unread");
+    now = shows::decimal(text, now, decoder.held());
+    shows::digest(text, now)
 }
 
 // Keeps a stream for the cases after it: how long it is.
 pub(crate) fn load(case: &[u8], stream: &mut [u8]) -> usize
     ensures { λ r. ⌜ r ≤ length (now (stream .exit)) ⌝ }
 {
-    io::write_all(STDOUT_FILENO, b"loaded ");
-    io::print_decimal(STDOUT_FILENO, case.len() as u64);
     if stream.len() < case.len() {
         return 0;
     }

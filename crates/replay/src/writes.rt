@@ -1,22 +1,22 @@
 // The writers' cases: a scale's bits, a position, a slice's length, and the value's bits. The slice
 // holds A5 everywhere, so that what is not written shows.
 use crate::shows;
-use libc::STDOUT_FILENO;
+use crate::shows::Line;
 use packer::Packed;
 use packer::UnpackedF32;
 use packer::UnpackedI32;
 use packer::UnpackedU32;
 
-fn written(answer: Packed, slice: &[u8]) {
+fn position(text: &mut [u8], line: Line, answer: Packed) -> Line {
     match answer {
-        Packed::Next(next) => {
-            io::write_all(STDOUT_FILENO, b"given ");
-            io::print_decimal(STDOUT_FILENO, next as u64);
-        }
-        Packed::Refused(e) => shows::refused(e.number()),
+        Packed::Next(next) => shows::given(text, line, next),
+        Packed::Refused(e) => shows::refused(text, line, e.number()),
     }
-    io::write_all(STDOUT_FILENO, b" ");
-    shows::bytes(slice);
+}
+
+fn written(text: &mut [u8], line: Line, answer: Packed, slice: &[u8]) -> Line {
+    let now = position(text, line, answer);
+    shows::bytes(text, now, slice)
 }
 
 fn packed(letter: u8, scale: f32, slice: &mut [u8], pos: usize, value: u32, case: &[u8]) -> Packed {
@@ -32,24 +32,24 @@ fn packed(letter: u8, scale: f32, slice: &mut [u8], pos: usize, value: u32, case
     }
 }
 
-fn one(letter: u8, scale: f32, case: &[u8], value: u32) {
+fn one(text: &mut [u8], line: Line, letter: u8, scale: f32, case: &[u8], value: u32) -> Line {
     if case.len() < 6 {
-        return;
+        return shows::cut_short(text, line);
     }
     let pos = shows::wide(case[4]);
     let room = shows::wide(case[5]);
     let mut space = shows::untouched();
     let slice = &mut space[..room];
     let answer = packed(letter, scale, slice, pos, value, case);
-    written(answer, slice);
+    written(text, line, answer, slice)
 }
 
-pub(crate) fn case(letter: u8, case: &[u8]) {
+pub(crate) fn case(text: &mut [u8], line: Line, letter: u8, case: &[u8]) -> Line {
     match packer::unpack_f32_auto(case, 0) {
         UnpackedF32::Got(scale, _) => match packer::unpack_u32(case, 6) {
-            UnpackedU32::Got(value, _) => one(letter, scale, case, value),
-            UnpackedU32::Refused(_) => shows::line_end(),
+            UnpackedU32::Got(value, _) => one(text, line, letter, scale, case, value),
+            UnpackedU32::Refused(_) => shows::cut_short(text, line),
         },
-        UnpackedF32::Refused(_) => shows::line_end(),
+        UnpackedF32::Refused(_) => shows::cut_short(text, line),
     }
 }

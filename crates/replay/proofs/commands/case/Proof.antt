@@ -5,6 +5,12 @@ use borrow.Author.Needs.{needs}
 use Rattle.replay.proofs.commands.case.Statement.{statement}
 use Rattle.replay.proofs.commands.case.Tie as tie
 
+cut-short-requires : tie.Need-cut-short-requires
+cut-short-requires c κs = search needs
+
+same-length : tie.Need-same-length
+same-length c = search needs
+
 returns : tie.Need-returns
 returns c = search needs
 
@@ -22,6 +28,15 @@ plain-requires c κs = search needs
 
 untouched-requires : tie.Need-untouched-requires
 untouched-requires c κs = search needs
+
+slice-aggregate-say : tie.Need-slice-aggregate-say
+slice-aggregate-say c = search needs
+
+say-requires : tie.Need-say-requires
+say-requires c κs = search needs
+
+same-length-2 : tie.Need-same-length-2
+same-length-2 c = search needs
 
 returns-2 : tie.Need-returns-2
 returns-2 c = search needs
@@ -47,6 +62,9 @@ encode-requires c κs = search needs
 encoded-requires : tie.Need-encoded-requires
 encoded-requires c κs = search needs
 
+same-length-3 : tie.Need-same-length-3
+same-length-3 c = search needs
+
 returns-3 : tie.Need-returns-3
 returns-3 c = search needs
 
@@ -54,12 +72,17 @@ pub case-spec : {M : Type 1} → statement M
 case-spec =
     tie.close
     (tie.spec
+    cut-short-requires
+    same-length
     returns
     length-at-requires
     shared-slice-read-plain
     number-of-requires
     plain-requires
     untouched-requires
+    slice-aggregate-say
+    say-requires
+    same-length-2
     returns-2
     array-borrow-prefix-space
     slice-aggregate-buf
@@ -68,4 +91,5 @@ case-spec =
     part-encode-end
     encode-requires
     encoded-requires
+    same-length-3
     returns-3)

@@ -5,6 +5,12 @@ use borrow.Author.Needs.{needs}
 use Rattle.replay.proofs.writes.one.Statement.{statement}
 use Rattle.replay.proofs.writes.one.Tie as tie
 
+cut-short-requires : tie.Need-cut-short-requires
+cut-short-requires c κs = search needs
+
+same-length : tie.Need-same-length
+same-length c = search needs
+
 returns : tie.Need-returns
 returns c = search needs
 
@@ -35,6 +41,9 @@ packed-requires c κs = search needs
 written-requires : tie.Need-written-requires
 written-requires c κs = search needs
 
+same-length-2 : tie.Need-same-length-2
+same-length-2 c = search needs
+
 returns-2 : tie.Need-returns-2
 returns-2 c = search needs
 
@@ -42,6 +51,8 @@ pub one-spec : {M : Type 1} → statement M
 one-spec =
     tie.close
     (tie.spec
+    cut-short-requires
+    same-length
     returns
     shared-slice-read-wide
     wide-requires
@@ -52,4 +63,5 @@ one-spec =
     slice-aggregate-slice
     packed-requires
     written-requires
+    same-length-2
     returns-2)

@@ -1,18 +1,19 @@
--- `replay::shows::digest` meets its contract. Assumes nothing.
+-- `replay::shows::mix_bytes` meets its contract. Assumes nothing.
+use mathlib.Core.Path.{_≡_, refl}
 use lib.ListN.{length}
 use Prim.Native.Nat.{_-_}
 use borrow.Author.Needs.{needs}
-use Rattle.replay.proofs.shows.digest.Statement.{statement}
-use Rattle.replay.proofs.shows.digest.Tie as tie
+use Rattle.replay.proofs.shows.mix_bytes.Statement.{statement}
+use Rattle.replay.proofs.shows.mix_bytes.Tie as tie
 
 abbrev Inv-loop : tie.InvT-loop
-Inv-loop bytes sum₀ at₀ sum at = Unit {0}
+Inv-loop text₀ bytes now₀ at₀ text now at = length text ≡ length text₀
 
 abbrev μ-loop : tie.MeasureT-loop
-μ-loop bytes sum₀ at₀ sum at = length bytes - at
+μ-loop text₀ bytes now₀ at₀ text now at = length bytes - at
 
 loop-holds : tie.Need-loop-holds Inv-loop μ-loop
-loop-holds c = tt
+loop-holds c = refl
 
 shared-slice-read-wide32 : tie.Need-shared-slice-read-wide32 Inv-loop μ-loop
 shared-slice-read-wide32 c = search needs
@@ -20,8 +21,8 @@ shared-slice-read-wide32 c = search needs
 wide32-requires : tie.Need-wide32-requires Inv-loop μ-loop
 wide32-requires c κs = search needs
 
-mixed-requires : tie.Need-mixed-requires Inv-loop μ-loop
-mixed-requires c κs = search needs
+mix-requires : tie.Need-mix-requires Inv-loop μ-loop
+mix-requires c κs = search needs
 
 add-at : tie.Need-add-at Inv-loop μ-loop
 add-at c = search needs
@@ -30,13 +31,16 @@ loop-less : tie.Need-loop-less Inv-loop μ-loop
 loop-less c = search needs
 
 loop-again : tie.Need-loop-again Inv-loop μ-loop
-loop-again c = tt
+loop-again c = search needs
+
+same-length : tie.Need-same-length Inv-loop μ-loop
+same-length c = search needs
 
 returns : tie.Need-returns Inv-loop μ-loop
 returns c = search needs
 
-pub digest-spec : {M : Type 1} → statement M
-digest-spec =
+pub mix-bytes-spec : {M : Type 1} → statement M
+mix-bytes-spec =
     tie.close
     (tie.spec
     Inv-loop
@@ -44,8 +48,9 @@ digest-spec =
     loop-holds
     shared-slice-read-wide32
     wide32-requires
-    mixed-requires
+    mix-requires
     add-at
     loop-less
     loop-again
+    same-length
     returns)

@@ -1,0 +1,52 @@
+-- `replay::shows::say` meets its contract. Assumes nothing.
+use mathlib.Core.Path.{_≡_, refl}
+use lib.ListN.{length}
+use Prim.Native.Nat.{_-_}
+use borrow.Author.Needs.{needs}
+use Rattle.replay.proofs.shows.say.Statement.{statement}
+use Rattle.replay.proofs.shows.say.Tie as tie
+
+abbrev Inv-loop : tie.InvT-loop
+Inv-loop text₀ bytes now₀ at₀ text now at = length text ≡ length text₀
+
+abbrev μ-loop : tie.MeasureT-loop
+μ-loop text₀ bytes now₀ at₀ text now at = length bytes - at
+
+loop-holds : tie.Need-loop-holds Inv-loop μ-loop
+loop-holds c = refl
+
+shared-slice-read-put : tie.Need-shared-slice-read-put Inv-loop μ-loop
+shared-slice-read-put c = search needs
+
+put-requires : tie.Need-put-requires Inv-loop μ-loop
+put-requires c κs = search needs
+
+add-at : tie.Need-add-at Inv-loop μ-loop
+add-at c = search needs
+
+loop-less : tie.Need-loop-less Inv-loop μ-loop
+loop-less c = search needs
+
+loop-again : tie.Need-loop-again Inv-loop μ-loop
+loop-again c = search needs
+
+same-length : tie.Need-same-length Inv-loop μ-loop
+same-length c = search needs
+
+returns : tie.Need-returns Inv-loop μ-loop
+returns c = search needs
+
+pub say-spec : {M : Type 1} → statement M
+say-spec =
+    tie.close
+    (tie.spec
+    Inv-loop
+    μ-loop
+    loop-holds
+    shared-slice-read-put
+    put-requires
+    add-at
+    loop-less
+    loop-again
+    same-length
+    returns)
