@@ -37,13 +37,7 @@ fn answer(text: &mut [u8], line: Line, letter: u8, case: &[u8], stream: &[u8]) -
 
 // A case with the letter L brings a stream for those after it; one with the letter V has each answer after it
 // shown whole.
-fn answered(
-    text: &mut [u8],
-    state: State,
-    letter: u8,
-    case: &[u8],
-    stream: &mut [u8],
-) -> State {
+fn answered(text: &mut [u8], state: State, letter: u8, case: &[u8], stream: &mut [u8]) -> State {
     let mut now = state;
     let line = state.line;
     let length = state.length;
@@ -130,9 +124,7 @@ fn all(text: &mut [u8], start: State, stream: &mut [u8]) -> State {
     now
 }
 
-fn main() {
-    let mut stream = io::buffer();
-    let mut text = io::large_buffer();
+fn run(text: &mut [u8], stream: &mut [u8]) {
     let start = State {
         line: Line {
             used: 0,
@@ -143,6 +135,12 @@ fn main() {
         length: 0,
         more: true,
     };
-    let end = all(&mut text, start, &mut stream);
-    shows::flushed(&text, end.line);
+    let end = all(text, start, stream);
+    shows::flushed(text, end.line);
+}
+
+fn main() {
+    let mut text = io::large_buffer();
+    let mut stream = io::buffer();
+    run(&mut text, &mut stream);
 }

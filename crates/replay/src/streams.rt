@@ -192,7 +192,14 @@ fn call(text: &mut [u8], run: Run, stream: &[u8], code: u8, size: usize) -> Run 
     }
 }
 
-fn repeated(text: &mut [u8], start: Run, stream: &[u8], code: u8, size: usize, times: usize) -> Run {
+fn repeated(
+    text: &mut [u8],
+    start: Run,
+    stream: &[u8],
+    code: u8,
+    size: usize,
+    times: usize,
+) -> Run {
     let mut run = start;
     let mut turns = times;
     while turns > 0 {
@@ -222,6 +229,13 @@ fn all(text: &mut [u8], start: Run, stream: &[u8], calls: &[u8]) -> Run {
     run
 }
 
+fn shown(text: &mut [u8], line: Line, replies: u32, held: u64) -> Line {
+    let mut now = shows::say(text, line, b" replies");
+    now = shows::decimal(text, now, replies as u64);
+    now = shows::say(text, now, b" unread");
+    shows::decimal(text, now, held)
+}
+
 pub(crate) fn case(text: &mut [u8], line: Line, calls: &[u8], stream: &[u8]) -> Line {
     if calls.len() % 5 != 0 {
         return shows::cut_short(text, line);
@@ -234,10 +248,7 @@ pub(crate) fn case(text: &mut [u8], line: Line, calls: &[u8], stream: &[u8]) -> 
     };
     let end = all(text, start, stream, calls);
     let decoder = end.decoder;
-    let mut now = shows::say(text, end.line, b" replies");
-    now = shows::decimal(text, now, end.replies as u64);
-    now = shows::say(text, now, b" unread");
-    now = shows::decimal(text, now, decoder.held());
+    let now = shown(text, end.line, end.replies, decoder.held());
     shows::digest(text, now)
 }
 

@@ -1,75 +1,61 @@
+-- `replay::streams::all` meets its contract. Assumes nothing.
+use mathlib.Core.Path.{_≡_, refl}
+use lib.ListN.{length}
+use Prim.Native.Nat.{_-_}
+use borrow.Author.Needs.{needs}
 use Rattle.replay.proofs.streams.all.Statement.{statement}
 use Rattle.replay.proofs.streams.all.Tie as tie
-use Rattle.replay.proofs.streams.all.Reads as reads
-use Rattle.replay.proofs.streams.all.Lts as lts
-use Rattle.replay.proofs.streams.number_at.Reads as number-at-reads
-use Rattle.replay.proofs.streams.repeated.Reads as repeated-reads
 
 abbrev Inv-loop : tie.InvT-loop
-Inv-loop text₀ stream calls run₀ at₀ text run at = ?
+Inv-loop text₀ stream calls run₀ at₀ text run at = length text ≡ length text₀
 
 abbrev μ-loop : tie.MeasureT-loop
-μ-loop text₀ stream calls run₀ at₀ text run at = ?
+μ-loop text₀ stream calls run₀ at₀ text run at = length calls - at
 
--- src/streams.rt:216:5
 loop-holds : tie.Need-loop-holds Inv-loop μ-loop
-loop-holds c = ?
+loop-holds c = refl
 
--- src/streams.rt:216:36
 sub-if1 : tie.Need-sub-if1 Inv-loop μ-loop
-sub-if1 c = ?
+sub-if1 c = search needs
 
--- src/streams.rt:217:37
 add-number-at : tie.Need-add-number-at Inv-loop μ-loop
-add-number-at c = ?
+add-number-at c = search needs
 
--- src/streams.rt:217:13
 number-at-requires : tie.Need-number-at-requires Inv-loop μ-loop
-number-at-requires c κs = ?
+number-at-requires c κs = search needs
 
--- src/streams.rt:218:38
 add-number-at-2 : tie.Need-add-number-at-2 Inv-loop μ-loop
-add-number-at-2 c = ?
+add-number-at-2 c = search needs
 
--- src/streams.rt:218:13
 number-at-requires-2 : tie.Need-number-at-requires-2 Inv-loop μ-loop
-number-at-requires-2 c κs = ?
+number-at-requires-2 c κs = search needs
 
--- src/streams.rt:219:43
 shared-slice-read-repeated : tie.Need-shared-slice-read-repeated Inv-loop μ-loop
-shared-slice-read-repeated c = ?
+shared-slice-read-repeated c = search needs
 
--- src/streams.rt:219:9
 repeated-requires : tie.Need-repeated-requires Inv-loop μ-loop
-repeated-requires c κs = ?
+repeated-requires c κs = search needs
 
--- src/streams.rt:220:9
 add-at : tie.Need-add-at Inv-loop μ-loop
-add-at c = ?
+add-at c = search needs
 
--- src/streams.rt:216:5
 loop-less : tie.Need-loop-less Inv-loop μ-loop
-loop-less c = ?
+loop-less c = search needs
 
--- src/streams.rt:216:5
 loop-again : tie.Need-loop-again Inv-loop μ-loop
-loop-again c = ?
+loop-again c = search needs
 
--- src/streams.rt:213:1
 same-length : tie.Need-same-length Inv-loop μ-loop
-same-length c = ?
+same-length c = search needs
 
--- src/streams.rt:213:1
 returns : tie.Need-returns Inv-loop μ-loop
-returns c = ?
+returns c = search needs
 
--- src/streams.rt:213:1
 same-length-2 : tie.Need-same-length-2 Inv-loop μ-loop
-same-length-2 c = ?
+same-length-2 c = search needs
 
--- src/streams.rt:213:1
 returns-2 : tie.Need-returns-2 Inv-loop μ-loop
-returns-2 c = ?
+returns-2 c = search needs
 
 pub all-spec : {M : Type 1} → statement M
 all-spec =
