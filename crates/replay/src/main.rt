@@ -8,6 +8,8 @@ mod reads;
 mod replies;
 mod shows;
 mod streams;
+mod thin;
+mod unpackers;
 mod writes;
 
 use libc::STDIN_FILENO;
@@ -26,6 +28,8 @@ fn answer(text: &mut [u8], line: Line, letter: u8, case: &[u8], stream: &[u8]) -
         b'c' => commands::case(text, line, case),
         b'r' => replies::case(text, line, case),
         b'M' => masks::case(text, line),
+        b'X' => unpackers::case(text, line, case),
+        b'Y' => unpackers::in_a_row(text, line, case),
         b'T' => reads::name_text(text, line, case),
         b'B' | b'S' | b'U' | b'I' | b'W' => writes::case(text, line, letter, case),
         b'b' | b's' | b'u' | b't' | b'i' | b'h' | b'w' | b'F' | b'n' | b'm' | b'd' => {

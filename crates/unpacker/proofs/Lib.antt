@@ -1,5 +1,6 @@
 pub mod Places
 pub mod Steps
+pub mod Sorts
 pub mod Thin
 pub mod Contracts
 pub mod Walk

@@ -18,7 +18,8 @@ use denote.Struct.Field.{Field, usize-field}
 use denote.Struct.Declared.{Declared, row}
 use denote.Struct.Laws.{FLaws, Plain, Laws, usize-laws, tells, owed}
 
--- a step's struct D: its name, its two fields, and that they are all; and its answer's type as a field, with that field's laws and its one MIR type
+-- a step's struct D: its name, its two fields, that they are all, and the step that has a given two; and its answer's type as a field, with that field's laws
+-- and its one MIR type
 pub record StepType : Type 2 where
   pub name : Sym
   pub Answer : Field
@@ -30,15 +31,18 @@ pub record StepType : Type 2 where
   pub answer : D → Answer .Value
   pub pos : D → ℕ
   pub to-one : (x y : D) → _≡_ {A = Answer .row .Denot × (ℕ × Unit {0})} (Answer .into (answer x), (pos x, tt)) (Answer .into (answer y), (pos y, tt)) → x ≡ y
+  pub make : Answer .Value → ℕ → D
+  pub made-answer : (a : Answer .Value) (p : ℕ) → a ≡ answer (make a p)
+  pub made-pos : (a : Answer .Value) (p : ℕ) → p ≡ pos (make a p)
 
 module _ (Z : StepType) where
   abbrev pub answerRow : RattleType
   answerRow = Recorded (Z .Answer .row) (Z .Answer .Value) (Z .Answer .into) (Z .Answer .into-one)
 
-  abbrev declared : Declared
+  abbrev pub declared : Declared
   declared = record { name = Z .name; args = []; parts = Z .Answer ∷ usize-field ∷ []; D = Z .D; to = λ d. (Z .Answer .into (Z .answer d), (Z .pos d, tt)); to-one = Z .to-one }
 
-  abbrev L : Laws declared
+  abbrev pub L : Laws declared
   L = (Z .laws, (usize-laws, tt))
 
   abbrev pub stepRow : RattleType

@@ -1,11 +1,13 @@
-//! Commands out: `encode`, of every command, behind hops, into buffers of every length.
+//! Commands out: `encode`, of every command, behind hops, into buffers of every length; and the masks' constants.
 //!
 //! A case, letter c: the command's place in the list below, its number's bits (four bytes; two flags are the lowest two bits),
-//! the buffer's length (two bytes), the number of hops (two bytes), and the hops. The buffer holds A5 everywhere.
+//! the buffer's length (two bytes), and the hops. The buffer holds A5 everywhere.
 //! The answer: `given COUNT` or `refused NUMBER`, and a digest of the whole buffer after the call. Where the Rust refuses, its buffer is
 //! not compared and the untouched one stands in; where the payload is over 255 bytes, `refused 6` stands for its wrapped length (document 01).
+//! The case of the masks, letter M, has no bytes; its answer is every constant of the three, in the order of the bits.
 
-use crate::{Block, Random, digest};
+use crate::answer::Answer;
+use crate::{Block, Random};
 use vesc::{Command, StatsMask, ValuesMask, ValuesSetupMask};
 
 pub const COMMANDS: u8 = 19;
@@ -53,23 +55,47 @@ fn with_hops<T>(hops: &[u8], command: Command, run: &mut dyn FnMut(Command) -> T
     }
 }
 
-pub fn encode(block: &mut Block, place: u8, bits: u32, room: usize, hops: &[u8]) {
-    let untouched = vec![0xA5u8; room];
-    let answer = if 2 * hops.len() + plain_length(place) > 255 {
-        format!("refused 6 {:08x}", digest(&untouched))
+pub fn answer(answer: &mut Answer, case: &[u8]) {
+    if case.len() < 7 {
+        return answer.cut_short();
+    }
+    let (place, hops) = (case[0], &case[7..]);
+    let bits = u32::from_be_bytes(case[1..5].try_into().unwrap());
+    let untouched = vec![0xA5u8; u16::from_be_bytes([case[5], case[6]]) as usize];
+    let mut buffer = untouched.clone();
+    if 2 * hops.len() + plain_length(place) > 255 {
+        answer.refused(6);
     } else {
-        let mut buffer = untouched.clone();
         match with_hops(hops, command(place, bits), &mut |c| vesc::encode(c, &mut buffer)) {
-            Ok(count) => format!("given {count} {:08x}", digest(&buffer)),
-            Err(_) => format!("refused 5 {:08x}", digest(&untouched)),
+            Ok(count) => answer.given(count),
+            Err(_) => {
+                answer.refused(5);
+                buffer = untouched;
+            }
         }
-    };
+    }
+    answer.bytes("buffer", &buffer);
+    answer.digest();
+}
+
+pub fn masks(answer: &mut Answer) {
+    for (name, flag) in ValuesMask::all().iter_names() {
+        answer.say(&format!("ValuesMask::{name}"), format!("{:08x}", flag.bits()));
+    }
+    for (name, flag) in ValuesSetupMask::all().iter_names() {
+        answer.say(&format!("ValuesSetupMask::{name}"), format!("{:08x}", flag.bits()));
+    }
+    for (name, flag) in StatsMask::all().iter_names() {
+        answer.say(&format!("StatsMask::{name}"), format!("{:08x}", flag.bits()));
+    }
+}
+
+pub fn encode(block: &mut Block, place: u8, bits: u32, room: usize, hops: &[u8]) {
     let mut case = vec![place];
     case.extend(bits.to_be_bytes());
     case.extend((room as u16).to_be_bytes());
-    case.extend((hops.len() as u16).to_be_bytes());
     case.extend(hops);
-    block.case(b'c', &case, &answer);
+    block.case(b'c', &case);
 }
 
 /// The bits that matter to a command's number.
@@ -101,6 +127,7 @@ fn ends(place: u8) -> Vec<u32> {
 pub fn block() -> Block {
     let mut block = Block::default();
     let mut random = Random(0x5EED_0003);
+    block.case(b'M', &[]);
     for place in 0..COMMANDS {
         for bits in ends(place) {
             for count in [0usize, 1, 2] {

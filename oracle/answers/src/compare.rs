@@ -1,32 +1,105 @@
-//! Comparison at scale: fresh random cases, answered by the Rust here and by our `replay` program, block by block.
+//! Comparison at scale: fresh random cases, answered by the Rust here and by our `replay` program, block by block. The first case that
+//! differs is shown with its bytes and both answers whole, field by field.
 
-use crate::{Block, Random, commands, replies, streams};
+use crate::{Block, Random, answer_to, commands, numbers, replies, streams, unpackers};
 use std::io::Write;
 use std::process::{Command, Stdio};
 
-/// Gives the block's cases to the program and counts the lines that differ; the first one is shown.
-fn differences(program: &str, block: &Block) -> usize {
-    let mut child = Command::new(program).stdin(Stdio::piped()).stdout(Stdio::piped()).spawn().expect("the replay program");
+/// What the program prints for these cases.
+fn answered(program: &[String], cases: &[u8]) -> String {
+    let mut command = Command::new(&program[0]);
+    command.args(&program[1..]).stdin(Stdio::piped()).stdout(Stdio::piped());
+    let mut child = command.spawn().unwrap_or_else(|error| {
+        eprintln!("answers: {}: {error}", program.join(" "));
+        std::process::exit(2);
+    });
     let mut stdin = child.stdin.take().unwrap();
-    let cases = block.cases.clone();
-    let writer = std::thread::spawn(move || stdin.write_all(&cases).unwrap());
-    let ours = child.wait_with_output().unwrap();
+    let cases = cases.to_vec();
+    // a program that stops early closes its input: what it printed until then is compared
+    let writer = std::thread::spawn(move || _ = stdin.write_all(&cases));
+    let output = child.wait_with_output().unwrap();
     writer.join().unwrap();
-    let ours = String::from_utf8(ours.stdout).unwrap();
-    let mut count = 0;
-    let (mut a, mut b) = (block.answers.lines(), ours.lines());
-    loop {
-        match (a.next(), b.next()) {
-            (None, None) => return count,
-            (x, y) if x == y => {}
-            (x, y) => {
-                if count == 0 {
-                    println!("the Rust: {x:?}   ours: {y:?}");
-                }
-                count += 1;
+    String::from_utf8_lossy(&output.stdout).into_owned()
+}
+
+/// The letter and the bytes of each case.
+fn cases(mut bytes: &[u8]) -> Vec<(u8, &[u8])> {
+    let mut all = vec![];
+    while let [letter, high, low, rest @ ..] = bytes {
+        let (case, rest) = rest.split_at(u16::from_be_bytes([*high, *low]) as usize);
+        all.push((*letter, case));
+        bytes = rest;
+    }
+    all
+}
+
+fn framed(letter: u8, case: &[u8]) -> Vec<u8> {
+    let mut bytes = vec![letter];
+    bytes.extend((case.len() as u16).to_be_bytes());
+    bytes.extend(case);
+    bytes
+}
+
+fn decimal(bytes: &[u8]) -> String {
+    bytes.iter().map(|b| b.to_string()).collect::<Vec<_>>().join(" ")
+}
+
+/// Shows the k-th case of a block: its bytes, and both answers whole. Of a sequence of calls, each call before the first that differs is a line.
+fn show(program: &[String], block: &Block, k: usize) {
+    let all = cases(&block.cases);
+    let (letter, case) = all[k];
+    println!("case {}, letter {}, {} bytes: {}", k + 1, letter as char, case.len(), decimal(case));
+    let mut asked = framed(b'V', &[]);
+    let mut stream: &[u8] = &[];
+    if letter == b'C' {
+        stream = all[..k].iter().rev().find(|(l, _)| *l == b'L').unwrap().1;
+        println!("its stream, {} bytes: {}", stream.len(), decimal(stream));
+        for (code, size, times) in streams::calls(case) {
+            let what = ["next", "next until nothing comes", "feed", "feed, next until nothing comes", "drop", "offer again"][code.min(5) as usize];
+            println!("  {what}, size {size}, {times} times");
+        }
+        asked.extend(framed(b'L', stream));
+    }
+    asked.extend(framed(letter, case));
+    let rust = answer_to(letter, case, stream, true);
+    let ours = answered(program, &asked);
+    let ours: Vec<&str> = ours.lines().last().unwrap_or("").split_whitespace().collect();
+    let rust_tokens: Vec<&str> = rust.line.split_whitespace().collect();
+    let part = |name: &str| name.split_once(": ").map_or("", |(part, _)| part).to_string();
+    let differ = (0..rust_tokens.len().max(ours.len())).find(|i| rust_tokens.get(*i) != ours.get(*i));
+    let shown = differ.map(|i| part(rust.names.get(i).map_or("", String::as_str)));
+    let mut last = String::new();
+    println!("{:>10} {:>10}   the Rust's answer and ours", "the Rust", "ours");
+    for i in 0..rust_tokens.len().max(ours.len()) {
+        let name = rust.names.get(i).map_or("nothing", String::as_str);
+        let token = |tokens: &[&str]| tokens.get(i).map_or("nothing", |t| *t).to_string();
+        let (a, b) = (token(&rust_tokens), token(&ours));
+        let here = part(name);
+        if letter == b'C' && shown.as_ref() != Some(&here) && !here.is_empty() {
+            if differ.is_none_or(|d| i < d) && here != last {
+                println!("{:>10} {:>10}   {here}", "same", "same");
             }
+            last = here;
+            continue;
+        }
+        println!("{a:>10} {b:>10}   {name}{}", if a == b { "" } else { "   <-- differs" });
+    }
+}
+
+/// Gives the block's cases to the program and counts the answers that differ. The first of all is shown.
+fn differences(program: &[String], block: &Block, show_first: bool) -> usize {
+    let ours = answered(program, &block.cases);
+    let (mut a, mut b) = (block.answers.lines(), ours.lines());
+    let mut count = 0;
+    for k in 0..block.count {
+        if a.next() != b.next() {
+            if count == 0 && show_first {
+                show(program, block, k);
+            }
+            count += 1;
         }
     }
+    count + b.count()
 }
 
 /// A number of the command line.
@@ -37,36 +110,46 @@ fn number<T: std::str::FromStr>(text: &str, what: &str) -> T {
     })
 }
 
+fn reads(block: &mut Block, random: &mut Random, count: usize) {
+    block.case(b'M', &[]);
+    numbers::some(block, random, count - count / 4);
+    unpackers::some(block, random, count / 4);
+}
+
 /// Exits with 1 where any answer differs.
 pub fn run(args: &[String]) {
-    let [seed, decodes, encodes, runs, program] = args else {
-        eprintln!("usage: answers compare SEED DECODES ENCODES STREAMS PROGRAM");
+    let [seed, decodes, encodes, sequences, read, program @ ..] = args else {
+        eprintln!("usage: answers compare SEED DECODES ENCODES SEQUENCES READS PROGRAM..");
         std::process::exit(2);
     };
+    if program.is_empty() {
+        eprintln!("answers: no program to compare with");
+        std::process::exit(2);
+    }
     let seed: u64 = number(seed, "the seed");
     let mut random = Random(seed ^ 0x9E37_79B9_7F4A_7C15);
     println!("seed {seed}");
-    let sorts: [(&str, &str, usize, fn(&mut Block, &mut Random, usize)); 3] = [
+    let sorts: [(&str, &str, usize, fn(&mut Block, &mut Random, usize)); 4] = [
+        ("reads, writes, names, masks", read, 50_000, reads),
         ("decode", decodes, 100_000, replies::some),
         ("encode", encodes, 50_000, commands::some),
-        ("stream", runs, 500, streams::some),
+        ("call sequences", sequences, 500, streams::some),
     ];
     let mut all = 0;
     for (name, wanted, most, make) in sorts {
         let wanted: usize = number(wanted, name);
-        let (mut left, mut cases, mut good, mut nans, mut differ) = (wanted, 0, 0, 0, 0);
+        let (mut left, mut good, mut nans, mut differ) = (wanted, 0, 0, 0);
         while left > 0 {
             let now = left.min(most);
             let mut block = Block::default();
             make(&mut block, &mut random, now);
-            differ += differences(program, &block);
-            cases += now;
+            differ += differences(program, &block, all + differ == 0);
             good += block.good;
             nans += block.nans;
             left -= now;
         }
         let frames = if good > 0 { format!(" ({good} good frames, {nans} of them with a NaN)") } else { String::new() };
-        println!("{name}: {cases} cases{frames}, {differ} differences");
+        println!("{name}: {wanted} cases{frames}, {differ} differences");
         all += differ;
     }
     if all > 0 {

@@ -1,21 +1,9 @@
 //! The Rust's decoder in the place of `vescline`, and traffic to give to both: for docs/SPEED.md.
 
 use crate::Random;
-use crate::replies::{any, damaged};
+use crate::replies::{any, damaged, id};
 use std::io::{Read, Write};
-use vesc::{CommandReply, Decoder};
-
-fn id(reply: &CommandReply) -> u8 {
-    match reply {
-        CommandReply::FwVersion(_) => 0,
-        CommandReply::GetValues(_) => 4,
-        CommandReply::GetValuesSelective(_) => 50,
-        CommandReply::GetValuesSetupSelective(_) => 51,
-        CommandReply::GetStats(_) => 128,
-        CommandReply::ResetStats => 129,
-        CommandReply::FwInfo(_) => 157,
-    }
-}
+use vesc::Decoder;
 
 /// Reads as `vescline` does, 65,536 bytes at a time, and prints the same, but for the figures, which the Rust does not keep.
 pub fn run() {

@@ -1,26 +1,31 @@
-//! Makes the stored cases and the Rust's answers to them, which our replay programs are held to.
+//! Makes cases, and the Rust's answers to them, which our `replay` is held to.
 //!
 //!     answers FOLDER BLOCK..     writes FOLDER/stdin (the cases) and FOLDER/stdout (the Rust's answers)
 //!
-//!     answers compare SEED DECODES ENCODES STREAMS PROGRAM     fresh random cases, asked of the Rust and of our PROGRAM
-//!     answers traffic BYTES FILE                                so many bytes of frames and noise
-//!     answers line                                              the Rust's decoder in the place of `vescline`
+//!     answers compare SEED DECODES ENCODES SEQUENCES READS PROGRAM..     fresh random cases, asked of the Rust and of our PROGRAM
+//!     answers traffic BYTES FILE                                          so many bytes of frames and noise
+//!     answers line                                                        the Rust's decoder in the place of `vescline`
 //!
-//! A case is a letter, a length (16 bits, big-endian) and so many bytes. The answers are text, a line a case; each
-//! block's file says what stands in its lines. Everything is made from fixed seeds: the same files each time.
+//! A case is a letter, a length (16 bits, big-endian) and so many bytes. Its answer is a line of text that begins with the letter; each
+//! block's file says what stands in its lines. The stored files are made from fixed seeds: the same files each time.
 
 // The Rust's packer is private to its crate, so the same file is compiled here once more, unchanged.
 #[path = "../../vesc/src/packer.rs"]
 #[allow(dead_code)]
 mod packer;
-pub use vesc::{DecodeError, EncodeError};
+pub use vesc::{CommandReply, DecodeError, EncodeError, decode};
 
+mod answer;
 mod commands;
 mod compare;
+mod decoder;
 mod line;
 mod numbers;
 mod replies;
 mod streams;
+mod unpackers;
+
+use answer::Answer;
 
 /// The cases of a block and the answers to them.
 #[derive(Default)]
@@ -31,19 +36,50 @@ pub struct Block {
     /// Of the cases of `decode`: good frames, and those with a NaN in a field.
     pub good: usize,
     pub nans: usize,
+    /// The stream that the sequences of calls take their bytes from.
+    pub stream: Vec<u8>,
 }
 
 impl Block {
-    pub fn case(&mut self, letter: u8, bytes: &[u8], answer: &str) {
+    pub fn case(&mut self, letter: u8, bytes: &[u8]) {
         self.cases.push(letter);
         self.cases.extend(u16::try_from(bytes.len()).unwrap().to_be_bytes());
         self.cases.extend(bytes);
-        self.answers.push(letter as char);
-        self.answers.push(' ');
-        self.answers.push_str(answer);
+        if letter == b'L' {
+            self.stream = bytes.to_vec();
+        }
+        let answer = answer_to(letter, bytes, &self.stream, false);
+        self.answers.push_str(&answer.line);
         self.answers.push('\n');
         self.count += 1;
+        self.good += usize::from(answer.good);
+        self.nans += usize::from(answer.nan);
     }
+}
+
+/// The Rust's answer to a case.
+pub fn answer_to(letter: u8, case: &[u8], stream: &[u8], whole: bool) -> Answer {
+    let mut answer = Answer::new(letter, whole);
+    match letter {
+        b'L' => {
+            answer.say("outcome", "loaded");
+            answer.say("length", case.len());
+        }
+        b'C' => streams::answer(&mut answer, case, stream),
+        b'c' => commands::answer(&mut answer, case),
+        b'r' => replies::answer(&mut answer, case),
+        b'M' => commands::masks(&mut answer),
+        b'T' => numbers::text(&mut answer, case),
+        b'X' => unpackers::answer(&mut answer, case),
+        b'Y' => unpackers::in_a_row(&mut answer, case),
+        b'B' | b'S' | b'U' | b'I' | b'W' => numbers::written(&mut answer, letter, case),
+        b'b' | b's' | b'u' | b't' | b'i' | b'h' | b'w' | b'F' | b'n' | b'm' | b'd' => numbers::read(&mut answer, letter, case),
+        _ => {
+            answer.say("outcome", "unknown");
+            answer.say("outcome", "case");
+        }
+    }
+    answer
 }
 
 /// xorshift64*: the same numbers on every machine.
@@ -61,22 +97,13 @@ impl Random {
         (self.next() >> 33) as usize % n
     }
 
+    pub fn one_of<T: Copy>(&mut self, all: &[T]) -> T {
+        all[self.below(all.len())]
+    }
+
     pub fn bytes(&mut self, n: usize) -> Vec<u8> {
         (0..n).map(|_| (self.next() >> 40) as u8).collect()
     }
-}
-
-/// A digest of bytes or of a reply's words, which both sides work out alike.
-pub fn digest(bytes: &[u8]) -> u32 {
-    bytes.iter().fold(0, |sum, b| mixed(sum, *b as u32))
-}
-
-pub fn mixed(sum: u32, word: u32) -> u32 {
-    sum.wrapping_mul(16_777_619).wrapping_add(word)
-}
-
-pub fn hex(bytes: &[u8]) -> String {
-    bytes.iter().map(|b| format!("{b:02x}")).collect()
 }
 
 /// Document 01's number of a refusal.
@@ -90,6 +117,26 @@ pub fn number(error: &DecodeError) -> u8 {
     }
 }
 
+/// Cases that are no cases: a letter that is not known, cases too short for their letter, and at the end a case that the input cuts off.
+fn faults() -> Block {
+    let mut block = Block::default();
+    block.case(b'?', &[]);
+    block.case(b'Z', &[1, 2, 3]);
+    for letter in *b"bsutihwFnmdBSUIWXY" {
+        block.case(letter, &[0x3F, 0x80, 0]);
+    }
+    for letter in *b"BSUIW" {
+        block.case(letter, &[0x3F, 0x80, 0, 0, 0, 4, 1, 2, 3]);
+    }
+    block.case(b'c', &[1, 0, 0, 0, 0, 0]);
+    block.case(b'C', &[0, 0, 0, 0]);
+    block.case(b'X', &[0x3F, 0x80, 0, 0, 0, 3, 0, 0]);
+    block.cases.extend([b'r', 0, 6, 2, 1, 129]);
+    block.answers.push_str("input cut short after 6 bytes of a case\n");
+    block.count += 1;
+    block
+}
+
 fn main() {
     let args: Vec<String> = std::env::args().collect();
     match args.get(1).map(String::as_str) {
@@ -99,7 +146,7 @@ fn main() {
         _ => {}
     }
     let (Some(folder), true) = (args.get(1), args.len() > 2) else {
-        eprintln!("usage: answers FOLDER BLOCK..   the blocks: numbers commands replies streams");
+        eprintln!("usage: answers FOLDER BLOCK..   the blocks: numbers unpackers commands replies streams faults");
         std::process::exit(2);
     };
     let mut cases = vec![];
@@ -107,18 +154,21 @@ fn main() {
     for block in &args[2..] {
         let made = match block.as_str() {
             "numbers" => numbers::block(),
+            "unpackers" => unpackers::block(),
             "commands" => commands::block(),
             "replies" => replies::block(),
             "streams" => streams::block(),
+            "faults" => faults(),
             _ => {
                 eprintln!("answers: no block {block}");
                 std::process::exit(2);
             }
         };
-        println!("{block}: {} cases, {} good frames, {} of them with a NaN", made.count, made.good, made.nans);
+        let frames = if made.good > 0 { format!(", {} good frames, {} of them with a NaN", made.good, made.nans) } else { String::new() };
+        println!("{block}: {} cases{frames}", made.count);
         cases.extend(made.cases);
         answers.push_str(&made.answers);
     }
-    std::fs::write(format!("{folder}/stdin"), &cases).unwrap();
-    std::fs::write(format!("{folder}/stdout"), &answers).unwrap();
+    std::fs::write(format!("{folder}/stdin"), cases).unwrap();
+    std::fs::write(format!("{folder}/stdout"), answers).unwrap();
 }

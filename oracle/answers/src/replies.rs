@@ -1,152 +1,191 @@
 //! Replies in: `decode` of slices, good frames and damaged ones.
 //!
-//! A case, letter r: the slice. The answer: `given COUNT ID DIGEST`, where the digest takes in every field of the reply as a word of
-//! 32 bits, in the order of the Rust's struct (a float by its bits, any NaN as 7fc00000; a flag as 0 or 1; an enum by its number; each byte of a name
-//! or uuid as a word); or `refused NUMBER` with the values returned with it.
+//! A case, letter r: the slice. The answer: `given COUNT DIGEST`, or `refused NUMBER` with the values returned with it and a digest.
+//! The digest takes in a whole reply as our struct has it: the kind's id, then every field of all five records as a word of 32 bits, in the
+//! order of the Rust's structs (a float by its bits, any NaN as 7fc00000; a flag as 0 or 1; an enum by its number; each byte of a name
+//! or uuid as a word). The records of other kinds, and all of them on a refusal, hold zeros, and the kind is then 0 (document 01).
 
-use crate::{Block, Random, mixed, number};
-use vesc::{CommandReply, DecodeError, FwInfo, FwVersion, SetupValues, Stats, Values};
+use crate::answer::Answer;
+use crate::{Block, Random, number};
+use vesc::{CommandReply, DecodeError, FwInfo, FwVersion, HwType, NrfFlags, QmlAppFlags, QmlHw, SetupValues, Stats, Values};
 
-fn float(x: f32) -> u32 {
-    if x.is_nan() { 0x7FC0_0000 } else { x.to_bits() }
+fn of_values(a: &mut Answer, v: &Values) {
+    a.float("values.temp_mosfet", v.temp_mosfet);
+    a.float("values.temp_motor", v.temp_motor);
+    a.float("values.avg_current_motor", v.avg_current_motor);
+    a.float("values.avg_current_input", v.avg_current_input);
+    a.float("values.avg_current_d", v.avg_current_d);
+    a.float("values.avg_current_q", v.avg_current_q);
+    a.float("values.duty_cycle", v.duty_cycle);
+    a.float("values.rpm", v.rpm);
+    a.float("values.voltage_in", v.voltage_in);
+    a.float("values.amp_hours", v.amp_hours);
+    a.float("values.amp_hours_charged", v.amp_hours_charged);
+    a.float("values.watt_hours", v.watt_hours);
+    a.float("values.watt_hours_charged", v.watt_hours_charged);
+    a.word("values.tachometer", v.tachometer as u32);
+    a.word("values.tachometer_abs", v.tachometer_abs as u32);
+    a.byte("values.fault_code", v.fault_code as u8);
+    a.float("values.pid_pos", v.pid_pos);
+    a.byte("values.controller_id", v.controller_id);
+    a.float("values.temp_mosfet1", v.temp_mosfet1);
+    a.float("values.temp_mosfet2", v.temp_mosfet2);
+    a.float("values.temp_mosfet3", v.temp_mosfet3);
+    a.float("values.avg_voltage_d", v.avg_voltage_d);
+    a.float("values.avg_voltage_q", v.avg_voltage_q);
+    a.byte("values.status", v.status);
 }
 
-fn of_values(v: &Values) -> Vec<u32> {
-    vec![
-        float(v.temp_mosfet),
-        float(v.temp_motor),
-        float(v.avg_current_motor),
-        float(v.avg_current_input),
-        float(v.avg_current_d),
-        float(v.avg_current_q),
-        float(v.duty_cycle),
-        float(v.rpm),
-        float(v.voltage_in),
-        float(v.amp_hours),
-        float(v.amp_hours_charged),
-        float(v.watt_hours),
-        float(v.watt_hours_charged),
-        v.tachometer as u32,
-        v.tachometer_abs as u32,
-        v.fault_code as u32,
-        float(v.pid_pos),
-        v.controller_id as u32,
-        float(v.temp_mosfet1),
-        float(v.temp_mosfet2),
-        float(v.temp_mosfet3),
-        float(v.avg_voltage_d),
-        float(v.avg_voltage_q),
-        v.status as u32,
-    ]
+fn of_setup_values(a: &mut Answer, v: &SetupValues) {
+    a.float("setup_values.temp_mosfet", v.temp_mosfet);
+    a.float("setup_values.temp_motor", v.temp_motor);
+    a.float("setup_values.avg_current_motor", v.avg_current_motor);
+    a.float("setup_values.avg_current_input", v.avg_current_input);
+    a.float("setup_values.duty_cycle", v.duty_cycle);
+    a.float("setup_values.rpm", v.rpm);
+    a.float("setup_values.speed", v.speed);
+    a.float("setup_values.voltage_in", v.voltage_in);
+    a.float("setup_values.battery_level", v.battery_level);
+    a.float("setup_values.amp_hours", v.amp_hours);
+    a.float("setup_values.amp_hours_charged", v.amp_hours_charged);
+    a.float("setup_values.watt_hours", v.watt_hours);
+    a.float("setup_values.watt_hours_charged", v.watt_hours_charged);
+    a.float("setup_values.distance", v.distance);
+    a.float("setup_values.distance_abs", v.distance_abs);
+    a.float("setup_values.pid_pos", v.pid_pos);
+    a.byte("setup_values.fault_code", v.fault_code as u8);
+    a.byte("setup_values.controller_id", v.controller_id);
+    a.byte("setup_values.num_vescs", v.num_vescs);
+    a.float("setup_values.watt_hours_battery_left", v.watt_hours_battery_left);
+    a.word("setup_values.odometer", v.odometer);
+    a.word("setup_values.uptime_ms", v.uptime_ms);
 }
 
-fn of_setup_values(v: &SetupValues) -> Vec<u32> {
-    vec![
-        float(v.temp_mosfet),
-        float(v.temp_motor),
-        float(v.avg_current_motor),
-        float(v.avg_current_input),
-        float(v.duty_cycle),
-        float(v.rpm),
-        float(v.speed),
-        float(v.voltage_in),
-        float(v.battery_level),
-        float(v.amp_hours),
-        float(v.amp_hours_charged),
-        float(v.watt_hours),
-        float(v.watt_hours_charged),
-        float(v.distance),
-        float(v.distance_abs),
-        float(v.pid_pos),
-        v.fault_code as u32,
-        v.controller_id as u32,
-        v.num_vescs as u32,
-        float(v.watt_hours_battery_left),
-        v.odometer,
-        v.uptime_ms,
-    ]
+fn of_stats(a: &mut Answer, v: &Stats) {
+    a.float("stats.speed_avg", v.speed_avg);
+    a.float("stats.speed_max", v.speed_max);
+    a.float("stats.power_avg", v.power_avg);
+    a.float("stats.power_max", v.power_max);
+    a.float("stats.current_avg", v.current_avg);
+    a.float("stats.current_max", v.current_max);
+    a.float("stats.temp_mosfet_avg", v.temp_mosfet_avg);
+    a.float("stats.temp_mosfet_max", v.temp_mosfet_max);
+    a.float("stats.temp_motor_avg", v.temp_motor_avg);
+    a.float("stats.temp_motor_max", v.temp_motor_max);
+    a.float("stats.count_time", v.count_time);
 }
 
-fn of_stats(s: &Stats) -> Vec<u32> {
-    vec![
-        float(s.speed_avg),
-        float(s.speed_max),
-        float(s.power_avg),
-        float(s.power_max),
-        float(s.current_avg),
-        float(s.current_max),
-        float(s.temp_mosfet_avg),
-        float(s.temp_mosfet_max),
-        float(s.temp_motor_avg),
-        float(s.temp_motor_max),
-        float(s.count_time),
-    ]
+fn of_fw_version(a: &mut Answer, v: &FwVersion) {
+    a.byte("fw_version.major", v.major);
+    a.byte("fw_version.minor", v.minor);
+    a.bytes("fw_version.hw_name", &v.hw_name);
+    a.bytes("fw_version.uuid", &v.uuid);
+    a.flag("fw_version.pairing_done", v.pairing_done);
+    a.byte("fw_version.test_version_number", v.test_version_number);
+    a.byte("fw_version.hw_type", v.hw_type as u8);
+    a.byte("fw_version.custom_config_num", v.custom_config_num);
+    a.flag("fw_version.has_phase_filters", v.has_phase_filters);
+    a.byte("fw_version.qml_hw", v.qml_hw as u8);
+    a.byte("fw_version.qml_app", v.qml_app.bits());
+    a.byte("fw_version.nrf_flags", v.nrf_flags.bits());
+    a.bytes("fw_version.fw_name", &v.fw_name);
+    a.word("fw_version.hw_crc", v.hw_crc);
 }
 
-fn words(bytes: &[u8]) -> impl Iterator<Item = u32> {
-    bytes.iter().map(|b| *b as u32)
+fn of_fw_info(a: &mut Answer, v: &FwInfo) {
+    a.byte("fw_info.major", v.major);
+    a.byte("fw_info.minor", v.minor);
+    a.byte("fw_info.test_version_number", v.test_version_number);
+    a.bytes("fw_info.commit_hash", &v.commit_hash);
+    a.bytes("fw_info.user_commit_hash", &v.user_commit_hash);
 }
 
-fn of_fw_version(v: &FwVersion) -> Vec<u32> {
-    let mut all = vec![v.major as u32, v.minor as u32];
-    all.extend(words(&v.hw_name));
-    all.extend(words(&v.uuid));
-    all.extend([
-        v.pairing_done as u32,
-        v.test_version_number as u32,
-        v.hw_type as u32,
-        v.custom_config_num as u32,
-        v.has_phase_filters as u32,
-        v.qml_hw as u32,
-        v.qml_app.bits() as u32,
-        v.nrf_flags.bits() as u32,
-    ]);
-    all.extend(words(&v.fw_name));
-    all.push(v.hw_crc);
-    all
-}
-
-fn of_fw_info(v: &FwInfo) -> Vec<u32> {
-    let mut all = vec![v.major as u32, v.minor as u32, v.test_version_number as u32];
-    all.extend(words(&v.commit_hash));
-    all.extend(words(&v.user_commit_hash));
-    all
-}
-
-/// A reply's id and its fields' words.
-pub fn fields(reply: &CommandReply) -> (u32, Vec<u32>) {
-    match reply {
-        CommandReply::FwVersion(v) => (0, of_fw_version(v)),
-        CommandReply::GetValues(v) => (4, of_values(v)),
-        CommandReply::GetValuesSelective(v) => (50, of_values(v)),
-        CommandReply::GetValuesSetupSelective(v) => (51, of_setup_values(v)),
-        CommandReply::GetStats(s) => (128, of_stats(s)),
-        CommandReply::ResetStats => (129, vec![]),
-        CommandReply::FwInfo(v) => (157, of_fw_info(v)),
+pub fn no_fw_version() -> FwVersion {
+    FwVersion {
+        major: 0,
+        minor: 0,
+        hw_name: [0; 39],
+        uuid: [0; 12],
+        pairing_done: false,
+        test_version_number: 0,
+        hw_type: HwType::Vesc,
+        custom_config_num: 0,
+        has_phase_filters: false,
+        qml_hw: QmlHw::None,
+        qml_app: QmlAppFlags::empty(),
+        nrf_flags: NrfFlags::empty(),
+        fw_name: [0; 39],
+        hw_crc: 0,
     }
 }
 
-pub fn reply_digest(reply: &CommandReply) -> u32 {
-    let (id, words) = fields(reply);
-    words.into_iter().fold(mixed(0, id), mixed)
+pub fn no_fw_info() -> FwInfo {
+    FwInfo { major: 0, minor: 0, test_version_number: 0, commit_hash: [0; 47], user_commit_hash: [0; 47] }
 }
 
-pub fn decode(block: &mut Block, slice: &[u8]) {
-    let answer = match vesc::decode(slice) {
-        Ok((count, reply)) => {
-            block.good += 1;
-            if let CommandReply::GetStats(s) = &reply {
-                block.nans += usize::from(format!("{s:?}").contains("NaN"));
-            }
-            format!("given {count} {} {:08x}", fields(&reply).0, reply_digest(&reply))
+/// A reply's id.
+pub fn id(reply: &CommandReply) -> u8 {
+    match reply {
+        CommandReply::FwVersion(_) => 0,
+        CommandReply::GetValues(_) => 4,
+        CommandReply::GetValuesSelective(_) => 50,
+        CommandReply::GetValuesSetupSelective(_) => 51,
+        CommandReply::GetStats(_) => 128,
+        CommandReply::ResetStats => 129,
+        CommandReply::FwInfo(_) => 157,
+    }
+}
+
+/// A whole reply, or the one that stands where there is none.
+pub fn whole(a: &mut Answer, reply: Option<&CommandReply>) {
+    a.byte("kind", reply.map_or(0, id));
+    match reply {
+        Some(CommandReply::GetValues(v) | CommandReply::GetValuesSelective(v)) => of_values(a, v),
+        _ => of_values(a, &Values::default()),
+    }
+    match reply {
+        Some(CommandReply::GetValuesSetupSelective(v)) => of_setup_values(a, v),
+        _ => of_setup_values(a, &SetupValues::default()),
+    }
+    match reply {
+        Some(CommandReply::GetStats(v)) => of_stats(a, v),
+        _ => of_stats(a, &Stats::default()),
+    }
+    match reply {
+        Some(CommandReply::FwVersion(v)) => of_fw_version(a, v),
+        _ => of_fw_version(a, &no_fw_version()),
+    }
+    match reply {
+        Some(CommandReply::FwInfo(v)) => of_fw_info(a, v),
+        _ => of_fw_info(a, &no_fw_info()),
+    }
+}
+
+pub fn answer(answer: &mut Answer, slice: &[u8]) {
+    let decoded = vesc::decode(slice);
+    match &decoded {
+        Ok((count, _)) => {
+            answer.good = true;
+            answer.given(*count);
         }
-        Err(error) => match error {
-            DecodeError::UnknownPacket { id } => format!("refused 3 {id}"),
-            DecodeError::ChecksumMismatch { expected, actual } => format!("refused 4 {expected} {actual}"),
-            other => format!("refused {}", number(&other)),
-        },
-    };
-    block.case(b'r', slice, &answer);
+        Err(error) => {
+            answer.refused(number(error));
+            match error {
+                DecodeError::UnknownPacket { id } => answer.say("id", id),
+                DecodeError::ChecksumMismatch { expected, actual } => {
+                    answer.say("expected", expected);
+                    answer.say("actual", actual);
+                }
+                _ => {}
+            }
+        }
+    }
+    whole(answer, decoded.ok().as_ref().map(|(_, reply)| reply));
+    answer.digest();
+}
+
+fn decode(block: &mut Block, slice: &[u8]) {
+    block.case(b'r', slice);
 }
 
 fn crc(bytes: &[u8]) -> u16 {
@@ -168,10 +207,6 @@ const VALUES: [usize; 22] = [2, 2, 4, 4, 4, 4, 2, 4, 2, 4, 4, 4, 4, 4, 4, 1, 4, 
 const SETUP: [usize; 22] = [2, 2, 4, 4, 2, 4, 4, 2, 2, 4, 4, 4, 4, 4, 4, 4, 1, 1, 1, 4, 4, 4];
 const STATS: [usize; 11] = [4; 11];
 
-fn span(widths: &[usize], mask: u32) -> usize {
-    widths.iter().enumerate().filter(|(bit, _)| mask >> bit & 1 == 1).map(|(_, w)| w).sum()
-}
-
 fn widths_of(id: u8) -> &'static [usize] {
     match id {
         51 => &SETUP,
@@ -180,15 +215,27 @@ fn widths_of(id: u8) -> &'static [usize] {
     }
 }
 
-/// A masked reply with the given bytes for its fields, as many as it takes.
+/// A masked reply with the given bytes for its fields: `bytes` is asked for each field in turn, by its width.
 pub fn masked(id: u8, mask: u32, mut bytes: impl FnMut(usize) -> Vec<u8>) -> Vec<u8> {
     let mut payload = vec![id];
     let mask = if id == 4 { (1 << 22) - 1 } else { mask };
     if id != 4 {
         payload.extend(mask.to_be_bytes());
     }
-    payload.extend(bytes(span(widths_of(id), mask)));
+    for (bit, width) in widths_of(id).iter().enumerate() {
+        if mask >> bit & 1 == 1 {
+            // bit 18 of the values governs three halves
+            for part in if *width == 6 { vec![2, 2, 2] } else { vec![*width] } {
+                payload.extend(bytes(part));
+            }
+        }
+    }
     framed(&payload)
+}
+
+/// The lowest bytes of a number, as many as a field is wide.
+fn lowest(number: i32, width: usize) -> Vec<u8> {
+    number.to_be_bytes()[4 - width..].to_vec()
 }
 
 pub fn name(random: &mut Random, length: usize) -> Vec<u8> {
@@ -236,25 +283,20 @@ pub fn any(random: &mut Random) -> Vec<u8> {
             if random.below(3) == 0 {
                 mask &= random.next() as u32;
             }
-            let near = random.below(3) == 0;
-            let ends = ends();
-            masked(id, mask, |n| {
-                if near {
-                    let whole = ends[random.below(ends.len())];
-                    whole.to_be_bytes().iter().copied().cycle().take(n).collect()
-                } else {
-                    random.bytes(n)
-                }
-            })
+            let (near, ends) = (random.below(3) == 0, ends());
+            masked(id, mask, |n| if near { lowest(random.one_of(&ends), n) } else { random.bytes(n) })
         }
     }
 }
 
-/// The numbers' ends, and those around 2^24.
+/// The whole numbers' ends, those around 2^24, and the floats' ends by their bits.
 fn ends() -> Vec<i32> {
     let mut all = vec![0, 1, -1, i32::MAX, i32::MIN, 32767, -32768, 0x7FFF_7FFF, -0x7FFF_8000];
     for step in -3..=3 {
         all.extend([(1 << 24) + step, -(1 << 24) + step]);
+    }
+    for bits in [0x7F80_0000u32, 0x7F7F_FFFF, 0x7FC0_0000, 0x7F80_0001, 0x0080_0000, 0x007F_FFFF] {
+        all.extend([bits as i32, (bits | 0x8000_0000) as i32]);
     }
     all
 }
@@ -288,20 +330,7 @@ pub fn block() -> Block {
                 decode(&mut block, &masked(id, mask, |n| random.bytes(n)));
             }
             for whole in ends() {
-                // the low bytes at the end of each field: shifted by the field's place in the table's widths
-                let bytes = |n: usize| -> Vec<u8> {
-                    let mut all = vec![];
-                    for (bit, width) in widths_of(id).iter().enumerate() {
-                        if mask >> bit & 1 == 1 {
-                            for part in if *width == 6 { vec![2, 2, 2] } else { vec![*width] } {
-                                all.extend(&whole.to_be_bytes()[4 - part..]);
-                            }
-                        }
-                    }
-                    assert_eq!(all.len(), n);
-                    all
-                };
-                decode(&mut block, &masked(id, mask, bytes));
+                decode(&mut block, &masked(id, mask, |n| lowest(whole, n)));
             }
         }
     }

@@ -1,176 +1,290 @@
-//! The stream: `Decoder` fed streams of frames, damage and noise, in several cuttings, with and without draining and empty pieces.
+//! The stream: `Decoder` under calls in any order, over streams of frames, damage and noise.
 //!
-//! A case with letter L brings a stream and has no answer of its own beyond `loaded LENGTH`. A case with letter C cuts the stream at hand
-//! and runs it from a fresh decoder: the size of its pieces (two bytes; 0: sizes from the seed), the seed (four bytes) and how (one byte: bit 0, asked until
-//! nothing comes after each piece, else asked at most once, as the seed says; bit 1, empty pieces among them).
-//! The answer: `replies NUMBER unread NUMBER DIGEST`: the digest takes in, after each call, its count, the reply's digest where one is given, the two
-//! positions, and every unread byte.
+//! A case with letter L brings a stream; its answer is `loaded LENGTH`. A case with letter C makes calls on a fresh decoder, five bytes
+//! each: a code, a size (two bytes) and how many times (two bytes). The codes: 0 `next`; 1 `next` until nothing comes; 2 `feed` of the next
+//! SIZE bytes of the stream, which goes on behind the bytes taken; 3 the same, then `next` until nothing comes; 4 SIZE bytes of the
+//! stream are dropped; 5 the last SIZE bytes are offered again.
+//! The answer: `replies NUMBER unread NUMBER DIGEST`. The digest takes in, after each call, what it answered (the count of `feed`; of `next`
+//! whether a reply is given, its count and the whole reply) and the state: the two positions, the four figures and every unread byte.
+//!
+//! The Rust keeps no figures. Those here follow document 01 from what the Rust's calls do to its state: fed, the bytes copied; handed, the bytes
+//! of frames given; passed, the bytes that its read position moved over besides, and the unread bytes that a `feed` let go.
 
-use crate::replies::{any, damaged, reply_digest};
-use crate::{Block, Random, digest, mixed};
-use vesc::Decoder;
+use crate::answer::Answer;
+use crate::decoder::Decoder;
+use crate::replies::{any, damaged, framed, fw_info, fw_version, masked, whole};
+use crate::{Block, Random};
 
-/// The numbers that both sides draw from a case's seed.
-struct Draws(u32);
-
-impl Draws {
-    fn below(&mut self, n: u32) -> u32 {
-        self.0 = self.0.wrapping_mul(1_664_525).wrapping_add(1_013_904_223);
-        self.0 / 65_536 % n
-    }
-}
-
-/// The decoder's unread bytes and positions. They are private in the Rust; its Debug output shows them.
-struct Seen {
-    buf: Vec<u8>,
-    rpos: usize,
-    wpos: usize,
-}
-
-fn seen(decoder: &Decoder) -> Seen {
-    let text = format!("{decoder:?}");
-    let numbers = |from: &str| -> Vec<usize> {
-        let rest = &text[text.find(from).unwrap() + from.len()..];
-        let end = rest.find(['w', 'r', '}', ']']).unwrap();
-        rest[..end].split(',').filter_map(|n| n.trim().trim_matches(['[', ' ']).parse().ok()).collect()
-    };
-    Seen {
-        buf: numbers("buf: [").iter().map(|n| *n as u8).collect(),
-        wpos: numbers("wpos: ")[0],
-        rpos: numbers("rpos: ")[0],
-    }
-}
-
+#[derive(Default)]
 struct Run {
     decoder: Decoder,
-    sum: u32,
+    fed: u64,
+    handed: u64,
+    passed: u64,
     replies: usize,
+    at: usize,
+    calls: usize,
 }
 
 impl Run {
-    fn mix(&mut self, word: u32) {
-        self.sum = mixed(self.sum, word);
+    fn state(&self, answer: &mut Answer) {
+        let unread = self.decoder.unread();
+        answer.wide("rpos", self.decoder.rpos() as u64);
+        answer.wide("wpos", self.decoder.wpos() as u64);
+        answer.wide("fed", self.fed);
+        answer.wide("handed", self.handed);
+        answer.wide("passed", self.passed);
+        answer.wide("held", unread.len() as u64);
+        answer.bytes("unread", unread);
     }
 
-    fn state(&mut self) {
-        let seen = seen(&self.decoder);
-        self.mix(seen.rpos as u32);
-        self.mix(seen.wpos as u32);
-        let unread = digest(&seen.buf[seen.rpos..seen.wpos]);
-        self.mix(unread);
+    fn named(&mut self, answer: &mut Answer, what: &str) {
+        self.calls += 1;
+        answer.part = format!("call {} {what}: ", self.calls);
     }
 
-    fn feed(&mut self, piece: &[u8]) -> usize {
+    fn feed(&mut self, answer: &mut Answer, stream: &[u8], size: usize) {
+        let piece = &stream[self.at..stream.len().min(self.at + size)];
+        self.named(answer, &format!("feed of {} bytes", piece.len()));
+        let before = self.decoder.unread().len();
         let count = self.decoder.feed(piece).unwrap();
-        self.mix(count as u32);
-        self.state();
-        count
+        self.at += count;
+        self.fed += count as u64;
+        self.passed += (before + count - self.decoder.unread().len()) as u64;
+        answer.wide("count", count as u64);
+        self.state(answer);
     }
 
-    fn next(&mut self) -> bool {
+    fn next(&mut self, answer: &mut Answer) -> bool {
+        self.named(answer, "next");
+        let (start, before) = (self.decoder.rpos(), self.decoder.unread().to_vec());
         let reply = self.decoder.next();
-        if let Some(reply) = &reply {
+        let moved = self.decoder.rpos() - start;
+        let mut count = 0;
+        if reply.is_some() {
             self.replies += 1;
-            self.mix(reply_digest(reply));
+            // the frame that was given is the one that ends where the reading now stands
+            let ends = |p: &usize| crate::decode(&before[*p..]).ok().map(|(n, _)| n).filter(|n| p + n == moved);
+            count = (0..moved).find_map(|p| ends(&p)).unwrap_or(0);
         }
-        self.state();
+        self.handed += count as u64;
+        self.passed += (moved - count) as u64;
+        answer.flag("given", reply.is_some());
+        answer.wide("count", count as u64);
+        whole(answer, reply.as_ref());
+        self.state(answer);
         reply.is_some()
     }
-}
 
-fn cut(block: &mut Block, stream: &[u8], size: usize, seed: u32, how: u8) {
-    let mut draws = Draws(seed);
-    let mut run = Run { decoder: Decoder::default(), sum: 0, replies: 0 };
-    let mut at = 0;
-    while at < stream.len() {
-        if how & 2 == 2 && draws.below(4) == 0 {
-            run.feed(&[]);
-        }
-        let wanted = if size == 0 { 1 + draws.below(600) as usize } else { size };
-        let piece = &stream[at..stream.len().min(at + wanted)];
-        at += run.feed(piece);
-        if how & 1 == 1 {
-            while run.next() {}
-        } else if draws.below(2) == 0 {
-            run.next();
+    fn drain(&mut self, answer: &mut Answer) {
+        while self.next(answer) {}
+    }
+
+    fn call(&mut self, answer: &mut Answer, stream: &[u8], code: u8, size: usize) {
+        match code {
+            0 => _ = self.next(answer),
+            1 => self.drain(answer),
+            2 => self.feed(answer, stream, size),
+            3 => {
+                self.feed(answer, stream, size);
+                self.drain(answer);
+            }
+            4 => self.at = stream.len().min(self.at + size),
+            _ => self.at = self.at.saturating_sub(size),
         }
     }
-    let seen = seen(&run.decoder);
-    let mut case = (size as u16).to_be_bytes().to_vec();
-    case.extend(seed.to_be_bytes());
-    case.push(how);
-    block.case(b'C', &case, &format!("replies {} unread {} {:08x}", run.replies, seen.wpos - seen.rpos, run.sum));
 }
 
-fn stream(random: &mut Random, length: usize) -> Vec<u8> {
-    let mut all = vec![];
-    while all.len() < length {
-        match random.below(10) {
-            0..=4 => all.extend(any(random)),
-            5 => {
-                let frame = any(random);
-                all.extend(damaged(random, &frame));
+/// The calls of a case, each with its size and how many times.
+pub fn calls(case: &[u8]) -> impl Iterator<Item = (u8, usize, usize)> {
+    let two = |high: u8, low: u8| u16::from_be_bytes([high, low]) as usize;
+    case.chunks(5).map(move |c| (c[0], two(c[1], c[2]), two(c[3], c[4])))
+}
+
+pub fn answer(answer: &mut Answer, case: &[u8], stream: &[u8]) {
+    if case.len() % 5 != 0 {
+        return answer.cut_short();
+    }
+    let mut run = Run::default();
+    for (code, size, times) in calls(case) {
+        for _ in 0..times {
+            run.call(answer, stream, code, size);
+        }
+    }
+    answer.part.clear();
+    answer.say("outcome", "replies");
+    answer.say("replies", run.replies);
+    answer.say("outcome", "unread");
+    answer.say("unread", run.decoder.unread().len());
+    answer.digest();
+}
+
+/// A sequence of calls in the making. It runs them as it goes, so that a piece can be fitted to the free tail.
+struct Script {
+    run: Run,
+    aside: Answer,
+    calls: Vec<(u8, usize, usize)>,
+}
+
+impl Script {
+    fn new() -> Self {
+        Script { run: Run::default(), aside: Answer::new(b'C', false), calls: vec![] }
+    }
+
+    fn call(&mut self, stream: &[u8], code: u8, size: usize) {
+        self.run.call(&mut self.aside, stream, code, size);
+        match self.calls.last_mut() {
+            Some((c, s, times)) if *c == code && *s == size && *times < 65535 => *times += 1,
+            _ => self.calls.push((code, size, 1)),
+        }
+    }
+
+    /// The whole stream in pieces of one size, asked until nothing comes after each. The count of turns guards against a decoder that takes nothing.
+    fn pieces(mut self, stream: &[u8], size: usize) -> Self {
+        for _ in 0..2 * stream.len() {
+            if self.run.at < stream.len() {
+                self.call(stream, 3, size);
             }
-            6 => {
-                let frame = any(random);
-                let end = random.below(frame.len() + 1);
-                all.extend(&frame[..end]);
+        }
+        self
+    }
+
+    /// Calls in any order until the stream is at its end, and some after it.
+    fn anyhow(mut self, random: &mut Random, stream: &[u8]) -> Self {
+        let draining = random.below(3);
+        let small = random.below(3) == 0;
+        for _ in 0..400 {
+            if self.run.at == stream.len() {
+                break;
             }
-            7 => {
-                let n = random.below(60);
-                all.extend(random.bytes(n));
-            }
-            // false starts: start bytes and the replies' ids
-            8 => {
-                for _ in 0..random.below(20) {
-                    all.push([2, 2, 0, 4, 50, 51, 128, 129, 157, 255][random.below(10)]);
+            let tail = 512 - self.run.decoder.wpos();
+            let free = 512 - self.run.decoder.unread().len();
+            match random.below(16) {
+                0 => (0..1 + random.below(3)).for_each(|_| self.call(stream, 0, 0)),
+                1 => self.call(stream, 1, 0),
+                2 => (0..1 + random.below(3)).for_each(|_| self.call(stream, 2, 0)),
+                3 => {
+                    let size = random.below(30);
+                    self.call(stream, 4, size);
+                }
+                4 => {
+                    let size = random.below(120);
+                    self.call(stream, 5, size);
+                }
+                5 | 6 => self.call(stream, 2, (tail + random.below(3)).saturating_sub(1)),
+                7 => self.call(stream, 2, (free + random.below(3)).saturating_sub(1)),
+                _ => {
+                    let size = 1 + random.below(if small { 40 } else { 600 });
+                    self.call(stream, if random.below(3) < draining { 3 } else { 2 }, size);
                 }
             }
-            _ => all.extend(vec![0; random.below(40)]),
         }
+        for _ in 0..random.below(6) {
+            let code = random.below(3) as u8;
+            self.call(stream, code, 0);
+        }
+        self
+    }
+
+    fn case(self, block: &mut Block) {
+        let mut case = vec![];
+        for (code, size, times) in self.calls.into_iter().take(800) {
+            case.push(code);
+            case.extend((size as u16).to_be_bytes());
+            case.extend((times as u16).to_be_bytes());
+        }
+        block.case(b'C', &case);
+    }
+}
+
+/// A stretch of a stream: a good frame, a damaged one, a cut one, noise, false starts or zeros.
+fn stretch(random: &mut Random) -> Vec<u8> {
+    match random.below(10) {
+        0..=4 => any(random),
+        5 => {
+            let frame = any(random);
+            damaged(random, &frame)
+        }
+        6 => {
+            let frame = any(random);
+            let end = random.below(frame.len() + 1);
+            frame[..end].to_vec()
+        }
+        7 => {
+            let n = random.below(60);
+            random.bytes(n)
+        }
+        8 => (0..random.below(20)).map(|_| random.one_of(&[2, 2, 0, 4, 50, 51, 128, 129, 157, 255])).collect(),
+        _ => vec![0; random.below(40)],
+    }
+}
+
+/// A frame of a kind's greatest length, or a few bytes shorter where names allow it.
+fn long_frame(random: &mut Random) -> Vec<u8> {
+    let (less, also) = (random.below(4), random.below(4));
+    match random.below(6) {
+        0..=2 => fw_version(random, 38 - less, 38 - also),
+        3 => fw_info(random, 46 - less, 46 - also),
+        4 => framed(&[129]),
+        _ => {
+            let id = random.one_of(&[4, 50, 51, 128]);
+            masked(id, (1 << 22) - 1, |n| random.bytes(n))
+        }
+    }
+}
+
+fn stream(random: &mut Random, length: usize, long: bool) -> Vec<u8> {
+    let mut all = vec![];
+    while all.len() < length {
+        all.extend(if long && random.below(8) > 0 { long_frame(random) } else { stretch(random) });
     }
     all.truncate(length);
     all
 }
 
-/// A size of pieces (0: drawn), and how they are fed.
-const CUTTINGS: [(usize, u8); 12] =
-    [(1, 1), (7, 1), (110, 1), (511, 1), (512, 1), (513, 1), (0, 1), (0, 0), (0, 3), (0, 2), (512, 2), (256, 3)];
-
-/// The k-th stream.
+/// The k-th stream: one in four is of longest frames.
 fn load(block: &mut Block, random: &mut Random, k: usize) -> Vec<u8> {
     let length = match k % 4 {
         0 => 1 + random.below(700),
         1 => 500 + random.below(100),
         _ => 600 + random.below(900),
     };
-    let stream = stream(random, length);
-    block.case(b'L', &stream, &format!("loaded {length}"));
+    let stream = stream(random, length, k % 4 == 3);
+    block.case(b'L', &stream);
     stream
 }
 
-/// So many streams, each in every cutting.
+const SIZES: [usize; 8] = [1, 1, 7, 110, 256, 511, 512, 513];
+
+/// So many streams: each in every size of pieces and under calls in any order.
 pub fn block() -> Block {
     let mut block = Block::default();
     let mut random = Random(0x5EED_0005);
-    for k in 0..500 {
+    for k in 0..400 {
         let stream = load(&mut block, &mut random, k);
-        for (size, how) in CUTTINGS {
-            let seed = random.next() as u32;
-            cut(&mut block, &stream, size, seed, how);
+        for size in &SIZES[1..] {
+            Script::new().pieces(&stream, *size).case(&mut block);
+        }
+        for _ in 0..6 {
+            Script::new().anyhow(&mut random, &stream).case(&mut block);
         }
     }
     block
 }
 
-/// So many streams, each in two cuttings.
+/// So many sequences of calls, four to a stream: of those with longest frames one a byte at a time, the rest in any order; of the others one
+/// in pieces of one size.
 pub fn some(block: &mut Block, random: &mut Random, count: usize) {
+    let mut stream = vec![];
     for k in 0..count {
-        let stream = load(block, random, k);
-        for _ in 0..2 {
-            let (size, how) = CUTTINGS[random.below(CUTTINGS.len())];
-            let seed = random.next() as u32;
-            cut(block, &stream, size, seed, how);
+        if k % 4 == 0 {
+            stream = load(block, random, k / 4);
         }
+        let script = match (k % 4, k / 4 % 4) {
+            (0, 3) => Script::new().pieces(&stream, 1),
+            (0, _) => Script::new().pieces(&stream, random.one_of(&SIZES)),
+            _ => Script::new().anyhow(random, &stream),
+        };
+        script.case(block);
     }
 }

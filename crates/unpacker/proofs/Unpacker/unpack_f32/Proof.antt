@@ -1,15 +1,10 @@
 -- `Unpacker::unpack_f32` meets its contract, by the walk of a method that takes a scale. Assumes nothing.
-use mathlib.Core.Path.{refl}
 use contract.Running.{givenOf, tables, tablesOf}
 use denote.Triple.Spec.{tripleOf}
 use denote.Triple.Table.{entered, cited}
 use Rattle.packer.specs.Reading.{unpackedF32}
 use Rattle.unpacker.specs.Unpacker.{scaledRead}
-use Rattle.packer.proofs.UnpackedF32 as Answer
-use Rattle.packer.proofs.UnpackedF32.Laws as Answer′
-use Rattle.unpacker.specs.declared.StepF32.{StepF32}
-use Rattle.unpacker.proofs.StepF32 as Step
-use Rattle.unpacker.proofs.Steps.{StepType}
+use Rattle.unpacker.proofs.Sorts.{ofF32}
 use Rattle.unpacker.proofs.WalkScaled.{StepTriple, method-meets}
 use Rattle.unpacker.proofs.step_f32.Symbol as step
 use Rattle.unpacker.proofs.step_f32.Met as step-thm
@@ -18,24 +13,10 @@ use Rattle.unpacker.proofs.Unpacker.unpack_f32.Key as key
 use Rattle.unpacker.proofs.Unpacker.unpack_f32.Statement.{statement}
 use Rattle.unpacker.proofs.Unpacker.unpack_f32.Code as code
 
-abbrev Z : StepType
-Z = record {
-  name = Step.struct .name;
-  Answer = Answer.the-field;
-  laws = Answer′.the-field-laws;
-  plain = Answer′.the-field-plain;
-  mir = Answer′.mir;
-  mir-is = refl;
-  D = StepF32;
-  answer = λ d. d .answer;
-  pos = λ d. d .pos;
-  to-one = Step.the-type .to-one;
-}
-
 pub unpack-f32-spec : {M : Type 1} → statement M
 unfolding code.routine tablesOf
 unpack-f32-spec 𝓤 H 𝓜 𝓖 𝓡 =
     entered 𝓤 H (tripleOf 𝓤 H (𝓖 .A) unpack.signature (unpack.spec 𝓤 H (𝓖 .A) (𝓜 .mem) (𝓡 .run)))
     (tables 𝓤 H 𝓜 𝓡 code.env .C) (tables 𝓤 H 𝓜 𝓡 code.env .Λ) key.name code.function (code.unfolded 𝓤 H 𝓜 𝓡)
-    (method-meets Z unpackedF32 (scaledRead 4) 𝓤 H (𝓖 .A) (givenOf 𝓤 H 𝓜 𝓖) step.name (tablesOf 𝓤 H 𝓜 (tables 𝓤 H 𝓜 𝓡 code.env))
-    (cited 𝓤 H (StepTriple Z unpackedF32 (scaledRead 4) 𝓤 H (𝓖 .A)) 𝓜 𝓡 code.env step.name step.routine code.calls-unpacker·step-f32 (step-thm.met 𝓤 H 𝓜 𝓖 𝓡)))
+    (method-meets ofF32 unpackedF32 (scaledRead 4) 𝓤 H (𝓖 .A) (givenOf 𝓤 H 𝓜 𝓖) step.name (tablesOf 𝓤 H 𝓜 (tables 𝓤 H 𝓜 𝓡 code.env))
+    (cited 𝓤 H (StepTriple ofF32 unpackedF32 (scaledRead 4) 𝓤 H (𝓖 .A)) 𝓜 𝓡 code.env step.name step.routine code.calls-unpacker·step-f32 (step-thm.met 𝓤 H 𝓜 𝓖 𝓡)))

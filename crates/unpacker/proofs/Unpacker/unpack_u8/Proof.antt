@@ -1,15 +1,10 @@
 -- `Unpacker::unpack_u8` meets its contract, by the walk that the methods share. Assumes nothing.
-use mathlib.Core.Path.{refl}
 use contract.Running.{givenOf, tables, tablesOf}
 use denote.Triple.Spec.{tripleOf}
 use denote.Triple.Table.{entered, cited}
 use Rattle.packer.specs.Reading.{unpackedU8}
 use Rattle.unpacker.specs.Unpacker.{unsignedRead}
-use Rattle.packer.proofs.UnpackedU8 as Answer
-use Rattle.packer.proofs.UnpackedU8.Laws as Answer′
-use Rattle.unpacker.specs.declared.StepU8.{StepU8}
-use Rattle.unpacker.proofs.StepU8 as Step
-use Rattle.unpacker.proofs.Steps.{StepType}
+use Rattle.unpacker.proofs.Sorts.{ofU8}
 use Rattle.unpacker.proofs.Walk.{StepTriple, method-meets}
 use Rattle.unpacker.proofs.step_u8.Symbol as step
 use Rattle.unpacker.proofs.step_u8.Met as step-thm
@@ -18,24 +13,10 @@ use Rattle.unpacker.proofs.Unpacker.unpack_u8.Key as key
 use Rattle.unpacker.proofs.Unpacker.unpack_u8.Statement.{statement}
 use Rattle.unpacker.proofs.Unpacker.unpack_u8.Code as code
 
-abbrev Z : StepType
-Z = record {
-  name = Step.struct .name;
-  Answer = Answer.the-field;
-  laws = Answer′.the-field-laws;
-  plain = Answer′.the-field-plain;
-  mir = Answer′.mir;
-  mir-is = refl;
-  D = StepU8;
-  answer = λ d. d .answer;
-  pos = λ d. d .pos;
-  to-one = Step.the-type .to-one;
-}
-
 pub unpack-u8-spec : {M : Type 1} → statement M
 unfolding code.routine tablesOf
 unpack-u8-spec 𝓤 H 𝓜 𝓖 𝓡 =
     entered 𝓤 H (tripleOf 𝓤 H (𝓖 .A) unpack.signature (unpack.spec 𝓤 H (𝓖 .A) (𝓜 .mem) (𝓡 .run)))
     (tables 𝓤 H 𝓜 𝓡 code.env .C) (tables 𝓤 H 𝓜 𝓡 code.env .Λ) key.name code.function (code.unfolded 𝓤 H 𝓜 𝓡)
-    (method-meets Z unpackedU8 (unsignedRead 1) 𝓤 H (𝓖 .A) (givenOf 𝓤 H 𝓜 𝓖) step.name (tablesOf 𝓤 H 𝓜 (tables 𝓤 H 𝓜 𝓡 code.env))
-    (cited 𝓤 H (StepTriple Z unpackedU8 (unsignedRead 1) 𝓤 H (𝓖 .A)) 𝓜 𝓡 code.env step.name step.routine code.calls-unpacker·step-u8 (step-thm.met 𝓤 H 𝓜 𝓖 𝓡)))
+    (method-meets ofU8 unpackedU8 (unsignedRead 1) 𝓤 H (𝓖 .A) (givenOf 𝓤 H 𝓜 𝓖) step.name (tablesOf 𝓤 H 𝓜 (tables 𝓤 H 𝓜 𝓡 code.env))
+    (cited 𝓤 H (StepTriple ofU8 unpackedU8 (unsignedRead 1) 𝓤 H (𝓖 .A)) 𝓜 𝓡 code.env step.name step.routine code.calls-unpacker·step-u8 (step-thm.met 𝓤 H 𝓜 𝓖 𝓡)))

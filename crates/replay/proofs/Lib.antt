@@ -1,0 +1,5 @@
+pub mod Lent
+pub mod Ends
+pub mod ReadAt
+pub mod ReadScaledAt
+pub mod Fresh
