@@ -2,6 +2,7 @@
 // line, and at the end the line's figures. A thin program over the proved decoder: it never feeds an
 // empty piece, asks until nothing comes, and offers again what was not taken.
 mod printing;
+mod waiting;
 
 use decoder::Decoder;
 use libc::STDIN_FILENO;
@@ -66,7 +67,8 @@ fn fed(line: Line, piece: &[u8], text: &mut [u8]) -> Line {
 }
 
 // One read, which may wait, so what is printed so far is written first. `more` is false where the input is
-// at its end or can't be read, or nothing can be written any more.
+// at its end or can't be read, or nothing can be written any more. A read that would block, or is
+// interrupted, is neither: it brings nothing, and the next step reads again.
 fn step(line: Line, input: &mut [u8], text: &mut [u8]) -> Stepped {
     let decoder = line.decoder;
     let ok = line.ok && printing::flushed(text, line.used);
@@ -83,6 +85,12 @@ fn step(line: Line, input: &mut [u8], text: &mut [u8]) -> Stepped {
     }
     let got = libc::read(STDIN_FILENO, input);
     if got < 0 {
+        if waiting::again() {
+            return Stepped {
+                more: true,
+                line: now,
+            };
+        }
         os::fail(b"vescline: standard input");
     }
     if got <= 0 {
@@ -131,6 +139,6 @@ fn main() {
     let end = all(start, &mut input, &mut text);
     let decoder = end.decoder;
     if end.ok {
-        printing::figures(decoder.figures());
+        printing::figures(&mut text, decoder.figures());
     }
 }

@@ -1,4 +1,6 @@
-// Text for standard output, gathered in a lent buffer so that many short lines are few writes.
+// Text for standard output, gathered in a lent buffer so that many short lines are few writes. Every write
+// is checked; a failure is said on standard error.
+use crate::waiting;
 use decoder::Figures;
 use libc::STDOUT_FILENO;
 use packer::Packed;
@@ -28,39 +30,85 @@ fn put_all(text: &mut [u8], used: usize, bytes: &[u8]) -> usize {
     end
 }
 
-// The number in decimal on a line of its own: where the text then ends.
-pub(crate) fn number_line(text: &mut [u8], used: usize, number: u64) -> usize {
+fn put_number(text: &mut [u8], used: usize, number: u64) -> usize {
     let mut digits = [0u8; 20];
     let count = io::decimal(number, &mut digits);
-    let end = put_all(text, used, &digits[..count]);
+    put_all(text, used, &digits[..count])
+}
+
+// The number in decimal on a line of its own: where the text then ends.
+pub(crate) fn number_line(text: &mut [u8], used: usize, number: u64) -> usize {
+    let end = put_number(text, used, number);
     put(text, end, b'\n')
 }
 
-// Whether what waits could be written; a failure is said on standard error.
-pub(crate) fn flushed(text: &[u8], used: usize) -> bool {
-    if used <= text.len() {
-        return written(&text[..used]);
+// One write: how many bytes it took, none where it is to be made again.
+fn some_written(bytes: &[u8]) -> Wrote {
+    let got = libc::write(STDOUT_FILENO, bytes);
+    if got > 0 {
+        return Wrote::Bytes(io::count(got, bytes));
     }
-    true
+    if got < 0 && waiting::again() {
+        return Wrote::Bytes(0);
+    }
+    Wrote::Failed
 }
 
+enum Wrote {
+    Bytes(usize),
+    Failed,
+}
+
+// Writes all the bytes. The count of turns is there only so that the loop can be proved to end.
 fn written(bytes: &[u8]) -> bool {
-    let ok = io::write_all(STDOUT_FILENO, bytes);
+    let mut at: usize = 0;
+    let mut turns = u64::MAX;
+    while turns > 0 {
+        if bytes.len() <= at {
+            return true;
+        }
+        match some_written(&bytes[at..]) {
+            Wrote::Bytes(count) => {
+                if bytes.len() - at < count {
+                    return true;
+                }
+                at += count;
+            }
+            Wrote::Failed => return false,
+        }
+        turns -= 1;
+    }
+    false
+}
+
+// Whether what waits could be written.
+pub(crate) fn flushed(text: &[u8], used: usize) -> bool {
+    if text.len() < used {
+        return true;
+    }
+    let ok = written(&text[..used]);
     if !ok {
         os::fail(b"vescline: standard output");
     }
     ok
 }
 
-// The last line.
-pub(crate) fn figures(all: Figures) {
-    written(b"fed ");
-    io::print_decimal(STDOUT_FILENO, all.fed);
-    io::write_all(STDOUT_FILENO, b" handed ");
-    io::print_decimal(STDOUT_FILENO, all.handed);
-    io::write_all(STDOUT_FILENO, b" passed ");
-    io::print_decimal(STDOUT_FILENO, all.passed);
-    io::write_all(STDOUT_FILENO, b" held ");
-    io::print_decimal(STDOUT_FILENO, all.held as u64);
-    io::write_all(STDOUT_FILENO, b"\n");
+fn figure(text: &mut [u8], used: usize, name: &[u8], number: u64) -> usize {
+    let end = put_all(text, used, name);
+    put_number(text, end, number)
+}
+
+// The last line, gathered whole: where the text then ends.
+fn figures_line(text: &mut [u8], all: Figures) -> usize {
+    let mut end = figure(text, 0, b"fed ", all.fed);
+    end = figure(text, end, b" handed ", all.handed);
+    end = figure(text, end, b" passed ", all.passed);
+    end = figure(text, end, b" held ", all.held);
+    put(text, end, b'\n')
+}
+
+// Writes the last line.
+pub(crate) fn figures(text: &mut [u8], all: Figures) {
+    let end = figures_line(text, all);
+    flushed(text, end);
 }
