@@ -4,12 +4,13 @@
 # Standard input through vescline, or a stored line's bytes where there is none: make run < capture
 run:
 	@mkdir -p target && rt check vescline > target/run.log 2>&1 || { cat target/run.log >&2; exit 1; }
-	@if [ -t 0 ]; then target/bin/vescline < crates/vescline/stdin; else target/bin/vescline; fi
+	@if [ -t 0 ]; then tools/run vescline < crates/vescline/stdin; else tools/run vescline; fi
 
 # The very last line is that of `rt ci`: N passed, 0 failed.
 test:
 	@rt fmt --check
 	@! awk '/^```rust/ {on = 1; next} /^```/ {on = 0} on && NF' README.md | grep -vxFf crates/example/src/main.rt || { echo "README.md shows code that crates/example does not have" >&2; exit 1; }
+	@tools/test-vescline
 	@rt ci
 
 fmt:

@@ -152,7 +152,7 @@ impl Script {
     /// Calls in any order until the stream is at its end, and some after it.
     fn anyhow(mut self, random: &mut Random, stream: &[u8]) -> Self {
         let draining = random.below(3);
-        let small = random.below(3) == 0;
+        let longest = random.one_of(&[40, 600, 2000]);
         for _ in 0..400 {
             if self.run.at == stream.len() {
                 break;
@@ -174,7 +174,7 @@ impl Script {
                 5 | 6 => self.call(stream, 2, (tail + random.below(3)).saturating_sub(1)),
                 7 => self.call(stream, 2, (free + random.below(3)).saturating_sub(1)),
                 _ => {
-                    let size = 1 + random.below(if small { 40 } else { 600 });
+                    let size = 1 + random.below(longest);
                     self.call(stream, if random.below(3) < draining { 3 } else { 2 }, size);
                 }
             }
