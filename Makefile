@@ -16,8 +16,13 @@ test:
 fmt:
 	@rt fmt
 
+# Tries the compiler's back end: interpreter, -O0, -O3, and with the compiler's assumptions checked.
+.PHONY: try
+try:
+	@tools/try
+
 # What follows asks the Rust, and needs cargo and Debian's packages: oracle/README.md.
-.PHONY: oracle answers compare speed
+.PHONY: oracle answers compare variants speed
 
 oracle:
 	@oracle/setup
@@ -25,18 +30,26 @@ oracle:
 
 # Makes the stored cases and the Rust's answers to them anew.
 answers: oracle
-	@target/oracle/build/release/answers crates/replay numbers commands replies streams
+	@target/oracle/build/release/answers crates/replay numbers unpackers commands replies streams faults
 
-# Compares with the Rust over fresh random cases: make compare SEED=7 DECODES=2000000 ENCODES=200000 STREAMS=20000
+# Compares with the Rust over fresh random cases: make compare SEED=7 DECODES=2000000 ENCODES=200000 SEQUENCES=20000 READS=1000000
 SEED ?= 1
 DECODES ?= 20000
 ENCODES ?= 2000
-STREAMS ?= 200
+SEQUENCES ?= 400
+READS ?= 20000
 compare: oracle
-	@rt check replay
-	@target/oracle/build/release/answers compare $(SEED) $(DECODES) $(ENCODES) $(STREAMS) target/bin/replay
+	@mkdir -p target && rt check replay > target/compare.log 2>&1 || { cat target/compare.log >&2; exit 1; }
+	@target/oracle/build/release/answers compare $(SEED) $(DECODES) $(ENCODES) $(SEQUENCES) $(READS) tools/run replay
+
+# Shows that the same comparison finds wrong variants of the Rust, each by name.
+variants: oracle
+	@mkdir -p target && rt check replay > target/compare.log 2>&1 || { cat target/compare.log >&2; exit 1; }
+	@SEED=$(SEED) oracle/variants $(DECODES) $(ENCODES) $(SEQUENCES) $(READS)
 
 # Times vescline against the Rust: docs/SPEED.md.
-speed: oracle
+speed:
+	@[ "$$(uname -m)" = x86_64 ] || { echo "make speed: programs are built for x86-64; on $$(uname -m) they run under an emulator, and a ratio has no meaning" >&2; exit 1; }
+	@$(MAKE) --no-print-directory oracle
 	@rt check vescline
 	@oracle/speed
