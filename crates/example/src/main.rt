@@ -8,9 +8,12 @@ use vesc::Kind;
 use vesc::ValuesMask;
 
 fn say(what: &[u8], number: usize) {
-    io::write_all(STDOUT_FILENO, what);
-    io::print_decimal(STDOUT_FILENO, number as u64);
-    io::write_all(STDOUT_FILENO, b"\n");
+    let ok = io::write_all(STDOUT_FILENO, what)
+        && io::print_decimal(STDOUT_FILENO, number as u64)
+        && io::write_all(STDOUT_FILENO, b"\n");
+    if !ok {
+        os::fail(b"example: standard output");
+    }
 }
 
 fn encoding() {

@@ -1,25 +1,25 @@
 // Document 01, "Frames on both sides of each rule" and "Commands": the lines that are run.
 ghost use mathlib.Core.Path.{_≡_};
 ghost use lib.ListN.{length};
+use crate::says;
 use command::Command;
 use envelope::Judged;
 use frame::Encoded;
-use libc::STDOUT_FILENO;
 
 fn count(n: usize) {
-    io::print_decimal(STDOUT_FILENO, n as u64);
-    io::write_all(STDOUT_FILENO, b"\n");
+    says::decimal(n as u64);
+    says::text(b"\n");
 }
 
 // The number of bytes written, or document 01's number of the refusal.
 fn encoded(answer: Encoded) {
     match answer {
         Encoded::Written(n) => {
-            io::write_all(STDOUT_FILENO, b"written ");
+            says::text(b"written ");
             count(n);
         }
         Encoded::Refused(e) => {
-            io::write_all(STDOUT_FILENO, b"refused ");
+            says::text(b"refused ");
             count(e.number() as usize);
         }
     }
@@ -28,19 +28,19 @@ fn encoded(answer: Encoded) {
 fn judged(answer: Judged) {
     match answer {
         Judged::Good(n) => {
-            io::write_all(STDOUT_FILENO, b"good ");
+            says::text(b"good ");
             count(n);
         }
         Judged::Refused(e) => {
-            io::write_all(STDOUT_FILENO, b"refused ");
+            says::text(b"refused ");
             count(e.number() as usize);
         }
     }
 }
 
 fn byte(b: u8) {
-    io::print_decimal(STDOUT_FILENO, b as u64);
-    io::write_all(STDOUT_FILENO, b" ");
+    says::decimal(b as u64);
+    says::text(b" ");
 }
 
 fn bytes(all: &[u8]) {
@@ -54,7 +54,7 @@ fn bytes(all: &[u8]) {
 pub(crate) fn fw_version() {
     let mut buf = [0u8; 6];
     let answer = frame::encode(Command::FwVersion, b"", &mut buf);
-    io::write_all(STDOUT_FILENO, b"FwVersion: ");
+    says::text(b"FwVersion: ");
     bytes(&buf);
     encoded(answer);
 }
@@ -82,13 +82,13 @@ fn behind(sent: Command, count: usize) {
 }
 
 pub(crate) fn hops_before_alive() {
-    io::write_all(STDOUT_FILENO, b"127 and 128 hops before Alive:\n");
+    says::text(b"127 and 128 hops before Alive:\n");
     behind(Command::Alive, 127);
     behind(Command::Alive, 128);
 }
 
 pub(crate) fn hops_before_set_rpm() {
-    io::write_all(STDOUT_FILENO, b"125 and 126 hops before SetRpm:\n");
+    says::text(b"125 and 126 hops before SetRpm:\n");
     behind(Command::SetRpm(-1500), 125);
     behind(Command::SetRpm(-1500), 126);
 }
@@ -100,7 +100,7 @@ fn behind_all(all: &[u8; 1000000]) {
 
 // Refused before any recursion over the hops.
 pub(crate) fn million_hops() {
-    io::write_all(STDOUT_FILENO, b"a million hops before Alive: ");
+    says::text(b"a million hops before Alive: ");
     behind_all(&[9u8; 1000000]);
 }
 
@@ -126,16 +126,13 @@ fn front(declared: u8, id: u8, count: usize) {
 }
 
 pub(crate) fn name_in_fw_version() {
-    io::write_all(
-        STDOUT_FILENO,
-        b"FwVersion with 38 and 39 bytes of a name:\n",
-    );
+    says::text(b"FwVersion with 38 and 39 bytes of a name:\n");
     front(105, 0, 43);
     front(105, 0, 44);
 }
 
 pub(crate) fn name_in_fw_info() {
-    io::write_all(STDOUT_FILENO, b"FwInfo with 46 and 47 bytes of a name:\n");
+    says::text(b"FwInfo with 46 and 47 bytes of a name:\n");
     front(98, 157, 52);
     front(98, 157, 53);
 }

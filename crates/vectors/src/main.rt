@@ -2,22 +2,21 @@
 // CRC-16/XMODEM, the two readings past 2^24, the frames that it does not mark P and its worked stream.
 // An encode behind a million hops is added.
 mod frames;
+mod says;
 mod stream;
 
-use libc::STDOUT_FILENO;
-
 fn check_value() {
-    io::write_all(STDOUT_FILENO, b"checksum of 123456789: ");
-    io::print_hex(STDOUT_FILENO, checksum::checksum(b"123456789") as u64, 4);
-    io::write_all(STDOUT_FILENO, b"\n");
+    says::text(b"checksum of 123456789: ");
+    says::hex(checksum::checksum(b"123456789") as u64, 4);
+    says::text(b"\n");
 }
 
 // The bits of a whole number's reading over 1: 4b800000 is 16777216, 4b800002 is 16777220.
 fn reading(raw: i32) {
-    io::write_all(STDOUT_FILENO, b"read over 1: ");
+    says::text(b"read over 1: ");
     let value = floats::scaled(raw, 1.0);
-    io::print_hex(STDOUT_FILENO, floats::f32_to_bits(value) as u64, 8);
-    io::write_all(STDOUT_FILENO, b"\n");
+    says::hex(floats::f32_to_bits(value) as u64, 8);
+    says::text(b"\n");
 }
 
 fn main() {

@@ -1,7 +1,7 @@
 // Document 01's worked stream: 2 0 4 2 1 129 129 169 3, then zeros. A false start waits for 73 bytes of
 // GetValues; the reply behind it comes at the 76th byte.
+use crate::says;
 use decoder::Decoder;
-use libc::STDOUT_FILENO;
 
 // Feeds a zero at a time: how many bytes were fed when a reply came, 0 where none does.
 fn reply_at(start: Decoder) -> usize {
@@ -27,10 +27,10 @@ pub(crate) fn worked() {
     let answer = before.next();
     let after = answer.decoder;
     if !answer.given {
-        io::write_all(STDOUT_FILENO, b"nothing given, ");
+        says::text(b"nothing given, ");
     }
-    io::print_decimal(STDOUT_FILENO, after.held());
-    io::write_all(STDOUT_FILENO, b" held; the reply comes at byte ");
-    io::print_decimal(STDOUT_FILENO, reply_at(after) as u64);
-    io::write_all(STDOUT_FILENO, b"\n");
+    says::decimal(after.held());
+    says::text(b" held; the reply comes at byte ");
+    says::decimal(reply_at(after) as u64);
+    says::text(b"\n");
 }
