@@ -2,6 +2,7 @@
 // is checked; a failure is said on standard error.
 use crate::waiting;
 use decoder::Figures;
+use libc::STDERR_FILENO;
 use libc::STDOUT_FILENO;
 use packer::Packed;
 
@@ -42,21 +43,36 @@ pub(crate) fn number_line(text: &mut [u8], used: usize, number: u64) -> usize {
     put(text, end, b'\n')
 }
 
-// One write: how many bytes it took, none where it is to be made again.
-fn some_written(bytes: &[u8]) -> Wrote {
-    let got = libc::write(STDOUT_FILENO, bytes);
-    if got > 0 {
-        return Wrote::Bytes(io::count(got, bytes));
-    }
-    if got < 0 && waiting::again() {
-        return Wrote::Bytes(0);
-    }
-    Wrote::Failed
-}
-
 enum Wrote {
     Bytes(usize),
     Failed,
+}
+
+// A file, not a pipe or a terminal: it has a position.
+fn is_file() -> bool {
+    libc::lseek(STDOUT_FILENO, 0, libc::SEEK_CUR) >= 0
+}
+
+// One write: how many bytes it took, none where it is to be made again. A file takes part of a write only
+// where it is full, and a write after that may end in a signal (SIGXFSZ), so none is made.
+fn some_written(bytes: &[u8]) -> Wrote {
+    let got = libc::write(STDOUT_FILENO, bytes);
+    if got <= 0 {
+        if got < 0 && waiting::again() {
+            return Wrote::Bytes(0);
+        }
+        os::fail(b"vescline: standard output");
+        return Wrote::Failed;
+    }
+    let count = io::count(got, bytes);
+    if count < bytes.len() && is_file() {
+        io::write_all(
+            STDERR_FILENO,
+            b"vescline: standard output: the file is full\n",
+        );
+        return Wrote::Failed;
+    }
+    Wrote::Bytes(count)
 }
 
 // Writes all the bytes. The count of turns is there only so that the loop can be proved to end.
@@ -86,11 +102,7 @@ pub(crate) fn flushed(text: &[u8], used: usize) -> bool {
     if text.len() < used {
         return true;
     }
-    let ok = written(&text[..used]);
-    if !ok {
-        os::fail(b"vescline: standard output");
-    }
-    ok
+    written(&text[..used])
 }
 
 fn figure(text: &mut [u8], used: usize, name: &[u8], number: u64) -> usize {
