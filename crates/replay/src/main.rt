@@ -1,7 +1,7 @@
 // Replays cases: prints our own answer to each, in the form in which oracle/answers prints the Rust's. The
 // gate holds the answers to the stored cases to be the same. A case is a letter, a length (16 bits,
-// big-endian) and so many bytes; oracle/answers/src says what each letter asks. A case that is not known, or
-// is cut short, is answered by a line that says so.
+// big-endian) and so many bytes, at most 4,096; oracle/answers/src says what each letter asks. A case that is
+// not known, too long or cut short is answered by a line that says so.
 mod commands;
 mod masks;
 mod reads;
@@ -83,6 +83,17 @@ fn stopped(text: &mut [u8], state: State, got: usize) -> State {
     now
 }
 
+// A case that is longer than any letter's can't be passed over: its bytes would be taken for cases.
+fn too_long(text: &mut [u8], state: State, size: usize) -> State {
+    let mut now = state;
+    let line = state.line;
+    let said = shows::say(text, line, b"case too long:");
+    let counted = shows::decimal(text, said, size as u64);
+    now.line = shows::say(text, counted, b" bytes\n");
+    now.more = false;
+    now
+}
+
 // One case.
 fn one(text: &mut [u8], state: State, stream: &mut [u8]) -> State {
     let mut now = state;
@@ -98,7 +109,7 @@ fn one(text: &mut [u8], state: State, stream: &mut [u8]) -> State {
     let size = shows::wide(head[1]) * 256 + shows::wide(head[2]);
     let mut space = io::buffer();
     if 4096 < size {
-        return stopped(text, now, 3);
+        return too_long(text, now, size);
     }
     let case = &mut space[..size];
     let filled = io::read_full(STDIN_FILENO, case);

@@ -1,5 +1,5 @@
 // Answers as text. A case's answer is one line; lines are gathered in a lent buffer, so that many short answers are few
-// writes. A word that is too much for a line (a reply has 255) goes into a digest, which oracle/answers works out alike.
+// writes. A word that is too much for a line (a reply has 256) goes into a digest, which oracle/answers works out alike.
 ghost use mathlib.Core.Path.{_≡_};
 ghost use Prim.Native.Nat.{_<_};
 ghost use lib.ListN.{length};

@@ -44,8 +44,8 @@ add-size c = search needs
 buffer-requires : tie.Need-buffer-requires
 buffer-requires c κs = search needs
 
-stopped-requires-2 : tie.Need-stopped-requires-2
-stopped-requires-2 c κs = search needs
+too-long-requires : tie.Need-too-long-requires
+too-long-requires c κs = search needs
 
 same-length-2 : tie.Need-same-length-2
 same-length-2 c = search needs
@@ -65,8 +65,8 @@ read-full-requires-2 c κs = search needs
 add-stopped : tie.Need-add-stopped
 add-stopped c = search needs
 
-stopped-requires-3 : tie.Need-stopped-requires-3
-stopped-requires-3 c κs = search needs
+stopped-requires-2 : tie.Need-stopped-requires-2
+stopped-requires-2 c κs = search needs
 
 same-length-3 : tie.Need-same-length-3
 same-length-3 c = search needs
@@ -115,14 +115,14 @@ one-spec =
     wide-requires-2
     add-size
     buffer-requires
-    stopped-requires-2
+    too-long-requires
     same-length-2
     returns-3
     array-borrow-prefix-space
     slice-aggregate-case
     read-full-requires-2
     add-stopped
-    stopped-requires-3
+    stopped-requires-2
     same-length-3
     returns-4
     array-read-letter
