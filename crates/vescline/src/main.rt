@@ -7,7 +7,7 @@ mod waiting;
 use decoder::Decoder;
 use libc::STDIN_FILENO;
 
-// The decoder, and how many bytes of text wait to be written; `ok` is false once writing failed.
+// The decoder, and how many bytes of text wait to be written; `ok` is false once reading or writing failed.
 struct Line {
     decoder: Decoder,
     used: usize,
@@ -92,8 +92,17 @@ fn step(line: Line, input: &mut [u8], text: &mut [u8]) -> Stepped {
             };
         }
         os::fail(b"vescline: standard input");
+        printing::figures_so_far(text, decoder.figures());
+        return Stepped {
+            more: false,
+            line: Line {
+                decoder,
+                used: 0,
+                ok: false,
+            },
+        };
     }
-    if got <= 0 {
+    if got == 0 {
         return Stepped {
             more: false,
             line: now,

@@ -110,9 +110,9 @@ fn figure(text: &mut [u8], used: usize, name: &[u8], number: u64) -> usize {
     put_number(text, end, number)
 }
 
-// The last line, gathered whole: where the text then ends.
-fn figures_line(text: &mut [u8], all: Figures) -> usize {
-    let mut end = figure(text, 0, b"fed ", all.fed);
+// The figures on a line, gathered whole: where the text then ends.
+fn figures_line(text: &mut [u8], used: usize, all: Figures) -> usize {
+    let mut end = figure(text, used, b"fed ", all.fed);
     end = figure(text, end, b" handed ", all.handed);
     end = figure(text, end, b" passed ", all.passed);
     end = figure(text, end, b" held ", all.held);
@@ -121,6 +121,15 @@ fn figures_line(text: &mut [u8], all: Figures) -> usize {
 
 // Writes the last line.
 pub(crate) fn figures(text: &mut [u8], all: Figures) {
-    let end = figures_line(text, all);
+    let end = figures_line(text, 0, all);
     flushed(text, end);
+}
+
+// Where the input failed, the figures go to standard error: on standard output they say that all went well.
+pub(crate) fn figures_so_far(text: &mut [u8], all: Figures) {
+    let start = put_all(text, 0, b"vescline: so far ");
+    let end = figures_line(text, start, all);
+    if end <= text.len() {
+        io::write_all(STDERR_FILENO, &text[..end]);
+    }
 }

@@ -33,8 +33,7 @@ fn command(place: u8, bits: u32) -> Command<'static> {
         15 => Command::ResetStats(bits & 1 == 1),
         16 => Command::Shutdown(bits & 1 == 1, bits & 2 == 2),
         17 => Command::FwInfo,
-        18 => Command::MotorEstop(bits as u16),
-        _ => unreachable!(),
+        _ => Command::MotorEstop(bits as u16),
     }
 }
 
@@ -159,13 +158,15 @@ pub fn some(block: &mut Block, random: &mut Random, count: usize) {
         let place = random.below(COMMANDS as usize) as u8;
         let hops = match random.below(8) {
             0..=3 => random.below(4),
-            4..=5 => random.below(40),
+            4 => random.below(40),
+            5 => 40 + random.below(80),
             _ => 120 + random.below(12),
         };
         let hops = random.bytes(hops);
         let frame = 2 * hops.len() + plain_length(place) + 5;
-        let room = match random.below(4) {
-            0 => random.below(frame + 8),
+        let room = match random.below(8) {
+            0 | 1 => random.below(frame + 8),
+            2 => frame + random.below(1025 - frame),
             _ => frame + random.below(4),
         };
         let bits = match random.below(3) {

@@ -19,6 +19,10 @@ fn answered(program: &[String], cases: &[u8]) -> String {
     let writer = std::thread::spawn(move || _ = stdin.write_all(&cases));
     let output = child.wait_with_output().unwrap();
     writer.join().unwrap();
+    if !output.status.success() {
+        eprintln!("answers: {} ended with {}", program.join(" "), output.status);
+        std::process::exit(2);
+    }
     String::from_utf8_lossy(&output.stdout).into_owned()
 }
 
@@ -112,7 +116,7 @@ fn number<T: std::str::FromStr>(text: &str, what: &str) -> T {
 
 fn reads(block: &mut Block, random: &mut Random, count: usize) {
     block.case(b'M', &[]);
-    numbers::some(block, random, count - count / 4);
+    numbers::some(block, random, count - 1 - count / 4);
     unpackers::some(block, random, count / 4);
 }
 

@@ -5,7 +5,7 @@
 //! or `refused NUMBER`; a float's value is its bits, `nan` for any NaN. A refused name or uuid is followed by zeros.
 //! Letters of the writers: B S U I u8 u16 u32 i32, W f32; their case is the scale's bits, the position, the slice's length and
 //! the value's bits (four bytes), and the slice holds A5 everywhere. The answer ends with what the slice then holds.
-//! T: the text of a name of 39 or 47 bytes, `text BYTES` or `none`.
+//! T: the text of a name of 39 or 47 bytes, `text BYTES` or `none`; both names of the reply that has such names are asked.
 
 use crate::answer::{Answer, hex};
 use crate::packer::{Packer, Unpacker};
@@ -117,12 +117,19 @@ fn write_case(block: &mut Block, letter: u8, scale: f32, pos: usize, room: usize
 }
 
 pub fn text(answer: &mut Answer, name: &[u8]) {
-    let text = if let Ok(hw_name) = <[u8; 39]>::try_from(name) {
-        FwVersion { hw_name, ..crate::replies::no_fw_version() }.hw_name().map(|t| hex(t.as_bytes()))
+    // both names of a reply are asked, each while the other one has no NUL and so no text
+    let shown = |t: Option<&str>| t.map(|t| hex(t.as_bytes()));
+    let (text, other) = if let Ok(bytes) = <[u8; 39]>::try_from(name) {
+        let none = FwVersion { hw_name: [b'x'; 39], fw_name: [b'x'; 39], ..crate::replies::no_fw_version() };
+        (shown(FwVersion { hw_name: bytes, ..none }.hw_name()), shown(FwVersion { fw_name: bytes, ..none }.fw_name()))
     } else {
-        let commit_hash = name.try_into().expect("a name of 39 or 47 bytes");
-        FwInfo { commit_hash, ..crate::replies::no_fw_info() }.commit_hash().map(|t| hex(t.as_bytes()))
+        let bytes = name.try_into().expect("a name of 39 or 47 bytes");
+        let none = FwInfo { commit_hash: [b'x'; 47], user_commit_hash: [b'x'; 47], ..crate::replies::no_fw_info() };
+        (shown(FwInfo { commit_hash: bytes, ..none }.commit_hash()), shown(FwInfo { user_commit_hash: bytes, ..none }.user_commit_hash()))
     };
+    if text != other {
+        answer.say("outcome", "the two names of a reply differ in their text");
+    }
     match text {
         Some(text) => {
             answer.say("outcome", "text");
@@ -255,7 +262,7 @@ pub fn some(block: &mut Block, random: &mut Random, count: usize) {
             0 => {
                 let letter = random.one_of(b"bsutihwFd");
                 let scale = random.one_of(&SCALES);
-                let pos = random.below(6);
+                let pos = if random.below(16) == 0 { random.below(256) } else { random.below(6) };
                 let mut slice = random.bytes(pos);
                 match random.below(3) {
                     0 => slice.extend(random.one_of(&whole).to_be_bytes()),
@@ -264,6 +271,7 @@ pub fn some(block: &mut Block, random: &mut Random, count: usize) {
                 }
                 let more = random.below(14);
                 slice.extend(random.bytes(more));
+                let pos = if random.below(16) == 0 { slice.len() + random.below(4) } else { pos };
                 read_case(block, letter, scale, pos, &slice);
             }
             1 => {
@@ -274,7 +282,7 @@ pub fn some(block: &mut Block, random: &mut Random, count: usize) {
                     1 => random.one_of(&whole) as u32,
                     _ => (random.one_of(&whole) as f32 / scale).to_bits().wrapping_add(random.below(3) as u32),
                 };
-                let (pos, room) = (random.below(5), random.below(12));
+                let (pos, room) = if random.below(16) == 0 { (random.below(256), 200 + random.below(56)) } else { (random.below(5), random.below(12)) };
                 write_case(block, letter, scale, pos, room, value);
             }
             2 => {
@@ -288,12 +296,14 @@ pub fn some(block: &mut Block, random: &mut Random, count: usize) {
                     let more = random.below(60);
                     slice.extend(random.bytes(more));
                 }
+                let pos = if random.below(16) == 0 { slice.len() + random.below(4) } else { pos };
                 read_case(block, letter, 1.0, pos, &slice);
             }
             _ => {
                 let room = random.one_of(&[39usize, 47]);
                 let mut name = vec![];
-                while name.len() < random.below(room + 8) {
+                let length = random.below(room + 8);
+                while name.len() < length {
                     let row = random.one_of(&ROWS);
                     name.extend(row.iter().map(|(low, high)| low + random.below((high - low) as usize + 1) as u8));
                 }

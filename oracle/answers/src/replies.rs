@@ -262,15 +262,24 @@ pub fn fw_info(random: &mut Random, commit: usize, user: usize) -> Vec<u8> {
     framed(&payload)
 }
 
+/// A length up to `most`; one in four is 0 or `most`.
+fn near_ends(random: &mut Random, most: usize) -> usize {
+    match random.below(8) {
+        0 => 0,
+        1 => most,
+        _ => random.below(most + 1),
+    }
+}
+
 /// A good frame of any kind.
 pub fn any(random: &mut Random) -> Vec<u8> {
     match random.below(7) {
         0 => {
-            let (hw, fw) = (random.below(39), random.below(39));
+            let (hw, fw) = (near_ends(random, 38), near_ends(random, 38));
             fw_version(random, hw, fw)
         }
         1 => {
-            let (commit, user) = (random.below(47), random.below(47));
+            let (commit, user) = (near_ends(random, 46), near_ends(random, 46));
             fw_info(random, commit, user)
         }
         2 => framed(&[129]),
@@ -282,6 +291,13 @@ pub fn any(random: &mut Random) -> Vec<u8> {
             }
             if random.below(3) == 0 {
                 mask &= random.next() as u32;
+            }
+            match random.below(16) {
+                0 => mask |= (1 << 22) - 1,
+                1 => mask &= !((1 << 22) - 1),
+                2 => mask = 1 << random.below(32),
+                3 => mask = 0,
+                _ => {}
             }
             let (near, ends) = (random.below(3) == 0, ends());
             masked(id, mask, |n| if near { lowest(random.one_of(&ends), n) } else { random.bytes(n) })
@@ -307,6 +323,46 @@ pub fn damaged(random: &mut Random, frame: &[u8]) -> Vec<u8> {
     let at = random.below(bad.len());
     bad[at] ^= 1 + random.below(255) as u8;
     bad
+}
+
+/// A copy with one bit changed.
+fn bit_changed(random: &mut Random, frame: &[u8]) -> Vec<u8> {
+    let mut bad = frame.to_vec();
+    // the frame's own five bytes half of the time: start, length, sum, end
+    let n = bad.len();
+    let at = if random.below(2) == 0 { random.one_of(&[0, 1, n - 3, n - 2, n - 1]) } else { random.below(n) };
+    bad[at] ^= 1 << random.below(8);
+    bad
+}
+
+/// Several of the frame's own bytes changed at once, so that the order of the refusals shows; half of them cut somewhere too.
+fn several_changed(random: &mut Random, frame: &[u8]) -> Vec<u8> {
+    let mut bad = frame.to_vec();
+    let n = bad.len();
+    for at in [1, 2, n - 3, n - 1] {
+        if random.below(2) == 0 {
+            bad[at] = random.one_of(&[0, 1, 2, 3, 4, 34, 159, 255, bad[at] ^ 0x80, bad[at].wrapping_add(1), bad[at].wrapping_sub(1)]);
+        }
+    }
+    if random.below(2) == 0 {
+        bad.truncate(n - random.below(n.min(8)));
+    }
+    bad
+}
+
+/// A frame whose right sum is 0: the last two bytes of the payload are the sum of those before. And one that has 0 or FFFF for its sum.
+fn rare_sum(random: &mut Random) -> Vec<u8> {
+    let (hw, fw) = (random.below(39), random.below(39));
+    let mut frame = fw_version(random, hw, fw);
+    let n = frame.len();
+    if random.below(2) == 0 {
+        let sum = crc(&frame[2..n - 5]).to_be_bytes();
+        frame[n - 5..n - 3].copy_from_slice(&sum);
+        return summed(&frame);
+    }
+    let byte = random.one_of(&[0, 255]);
+    frame[n - 3..n - 1].fill(byte);
+    frame
 }
 
 /// The sum put right again, over the declared length where the frame has it.
@@ -416,9 +472,10 @@ pub fn block() -> Block {
 pub fn some(block: &mut Block, random: &mut Random, count: usize) {
     for _ in 0..count {
         let frame = any(random);
-        let slice = match random.below(10) {
+        let slice = match random.below(15) {
             0..=6 => {
-                let more = random.below(8);
+                // one in 64 is longer than a decoder holds
+                let more = if random.below(64) == 0 { random.below(1500) } else { random.below(8) };
                 let mut slice = frame;
                 slice.extend(random.bytes(more));
                 slice
@@ -427,6 +484,22 @@ pub fn some(block: &mut Block, random: &mut Random, count: usize) {
             8 => {
                 let bad = damaged(random, &frame);
                 summed(&bad)
+            }
+            9 => bit_changed(random, &frame),
+            10 => several_changed(random, &frame),
+            12 if random.below(4) == 0 => {
+                // only the byte fields: fault code, id, status or number
+                let id = random.one_of(&[50, 51]);
+                let mask = if id == 50 { 1 << 15 | 1 << 17 | 1 << 21 } else { 1 << 16 | 1 << 17 | 1 << 18 };
+                masked(id, mask, |n| random.bytes(n))
+            }
+            11 if random.below(4) == 0 => rare_sum(random),
+            11 => {
+                // any id, behind any length
+                let n = random.below(8);
+                let mut slice = vec![2];
+                slice.extend(random.bytes(2 + n));
+                slice
             }
             _ => {
                 let length = random.below(frame.len() + 1);

@@ -186,6 +186,22 @@ impl Script {
         self
     }
 
+    /// Brings the read position behind so many zeros, fills the buffer to its end or near it, and feeds what then moves, clears or just fits.
+    fn placed(mut self, random: &mut Random, stream: &[u8], zeros: usize) -> Self {
+        self.call(stream, 3, zeros.min(511) + 1);
+        for _ in 0..3 {
+            let tail = 512 - self.run.decoder.wpos();
+            self.call(stream, 2, random.one_of(&[tail, tail, tail.saturating_sub(1), tail / 2]));
+            if random.below(4) == 0 {
+                self.call(stream, 1, 0);
+            }
+            let free = 512 - self.run.decoder.unread().len();
+            self.call(stream, 2, random.one_of(&[0, 1, 1, 2, free, free + 1, 4000]));
+        }
+        self.call(stream, 1, 0);
+        self
+    }
+
     fn case(self, block: &mut Block) {
         let mut case = vec![];
         for (code, size, times) in self.calls.into_iter().take(800) {
@@ -256,7 +272,7 @@ fn load(block: &mut Block, random: &mut Random, k: usize) -> Vec<u8> {
 
 const SIZES: [usize; 8] = [1, 1, 7, 110, 256, 511, 512, 513];
 
-/// So many streams: each in every size of pieces and under calls in any order.
+/// So many streams: each in every size of pieces and under calls in any order; and as many with the read position at a chosen place.
 pub fn block() -> Block {
     let mut block = Block::default();
     let mut random = Random(0x5EED_0005);
@@ -268,15 +284,40 @@ pub fn block() -> Block {
         for _ in 0..6 {
             Script::new().anyhow(&mut random, &stream).case(&mut block);
         }
+        let zeros = k * 37 % 513;
+        let behind = load_behind(&mut block, &mut random, zeros);
+        Script::new().placed(&mut random, &behind, zeros).case(&mut block);
     }
     block
 }
 
-/// So many sequences of calls, four to a stream: of those with longest frames one a byte at a time, the rest in any order; of the others one
-/// in pieces of one size.
+/// A stream that begins with so many zeros, which `next` moves over.
+fn load_behind(block: &mut Block, random: &mut Random, zeros: usize) -> Vec<u8> {
+    let mut all = vec![0; zeros];
+    let length = 600 + random.below(2400);
+    all.extend(stream(random, length, true));
+    block.case(b'L', &all);
+    all
+}
+
+/// So many sequences of calls. Every other one brings the read position to a chosen place. The rest go four to a stream: of those with longest
+/// frames one a byte at a time, of the others one in pieces of one size, and all else in any order.
 pub fn some(block: &mut Block, random: &mut Random, count: usize) {
     let mut stream = vec![];
     for k in 0..count {
+        if k % 2 == 1 {
+            let zeros = match random.below(3) {
+                0 => random.below(4),
+                1 => 508 + random.below(5),
+                // 37 and 513 have no common divisor, so that every place comes up
+                _ => k / 2 * 37 % 513,
+            };
+            let behind = load_behind(block, random, zeros);
+            Script::new().placed(random, &behind, zeros).case(block);
+            block.case(b'L', &stream);
+            continue;
+        }
+        let k = k / 2;
         if k % 4 == 0 {
             stream = load(block, random, k / 4);
         }
