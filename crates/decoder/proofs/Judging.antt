@@ -14,8 +14,7 @@ use Rattle.refusals.specs.declared.DecodeError.the-variants.{IncompleteData, In
 use Rattle.envelope.specs.Envelope.{judged, payloadPart, judgeOf}
 use Rattle.envelope.specs.declared.Judged.{Judged}
 use Rattle.envelope.specs.declared.Judged.the-variants.{Good, Refused}
-use Rattle.envelope.proofs.Frames as judged-frames
-use Rattle.envelope.proofs.Order.{start-wrong}
+use Rattle.envelope.proofs.Order.{no-start, start-wrong}
 use Rattle.reply.specs.declared.CommandReply.{CommandReply}
 use Rattle.reply.specs.Reply.{replyOf}
 use Rattle.reply.specs.Decode.{Decode, replyBy, decodeOf}
@@ -58,7 +57,7 @@ frames-steady =
     record {
       prefix = λ xs ys told. ap (λ (d : Decode). verdictOf (d .answer) (d .reply)) (decode-prefix xs ys (λ e. told (incomplete-waits xs e)));
       sized = λ xs n r e. let s = decode-sized xs n (good-frame xs n r e) in (omega arith, s .1);
-      empty = incomplete-waits [] (judged-frames.frames .empty);
+      empty = incomplete-waits [] (sym (no-start [] (omega arith)));
     }
 
 -- "So `decode` of 110 bytes or more never answers 1."

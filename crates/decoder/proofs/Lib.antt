@@ -3,5 +3,6 @@ pub mod States
 pub mod Judging
 pub mod Seeking
 pub mod Unique
+pub mod Runs
 pub mod DemandThree
 pub mod OldLoss

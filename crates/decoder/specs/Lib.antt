@@ -1,2 +1,5 @@
 pub mod Frames
 pub mod State
+pub mod Runs
+pub mod OldLoss
+pub mod OneAnswer

@@ -10,5 +10,5 @@ pub mod Sized
 pub mod OwnBytes
 pub mod Longest
 pub mod Unique
-pub mod Frames
 pub mod Refusals
+pub mod ResetStats

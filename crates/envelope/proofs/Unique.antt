@@ -4,12 +4,12 @@ use Rattle.refusals.proofs.Unique.{told-apart, readBack, decode-back}
 use Rattle.envelope.specs.declared.Judged.{Judged}
 use Rattle.envelope.specs.declared.Judged.the-variants.{Good, Refused}
 use Rattle.envelope.specs.Envelope.{judged}
+use Rattle.envelope.specs.OneAnswer.{OneAnswer}
 
 judged-back : (a : Judged) → readBack Good Refused (judged a) ≡ a
 unfolding readBack
 judged-back (Good count) = refl
 judged-back (Refused e) = ap Refused (decode-back e)
 
--- two answers that say the same are one
-pub judge-unique : (a b : Judged) → judged a ≡ judged b → a ≡ b
-judge-unique = told-apart judged (readBack Good Refused) judged-back
+pub one-answer : OneAnswer
+one-answer = record { judge = told-apart judged (readBack Good Refused) judged-back }

@@ -1,1 +1,3 @@
 pub mod Envelope
+pub mod Longest
+pub mod OneAnswer

@@ -1,6 +1,6 @@
 pub mod Answers
 pub mod Longest
 pub mod Numbers
-pub mod OnlyOne
+pub mod Unique
 pub mod OwnBytes
 pub mod Turns

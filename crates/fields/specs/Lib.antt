@@ -2,3 +2,4 @@ pub mod Fields
 pub mod Reading
 pub mod Rows
 pub mod Sorts
+pub mod OneAnswer

@@ -4,8 +4,10 @@ use mathlib.Core.Path.{_≡_, refl, sym, ap, _∙_}
 use mathlib.Core.List.{List}
 use Prim.Native.Nat.{ℕ}
 use Rattle.refusals.specs.declared.EncodeError.{EncodeError}
+use Rattle.refusals.specs.OneAnswer.{ToldApart}
 use Rattle.refusals.proofs.Unique.{told-apart, writeBack, encode-back}
 use Rattle.frame.specs.Encode.{encodeAfter, encoded, Encodes}
+use Rattle.frame.specs.OneAnswer.{OneAnswer}
 use Rattle.command.specs.declared.Command.{Command}
 use Rattle.frame.specs.declared.Encoded.{Encoded}
 use Rattle.frame.specs.declared.Encoded.the-variants.{Written, Refused}
@@ -20,10 +22,8 @@ unfolding writeBack
 encoded-back (Written count) = refl
 encoded-back (Refused e) = ap Refused (encode-back e)
 
-encoded-unique : (a b : Encoded) → encoded a ≡ encoded b → a ≡ b
+encoded-unique : ToldApart encoded
 encoded-unique = told-apart encoded (writeBack Written Refused) encoded-back
 
--- the answer and the bytes are the only ones: whatever meets the promise for the same arguments is the same
-pub encode-unique : (command : Command) (hops l : List ℕ) {r s : Encoded} {after other : List ℕ} → Encodes command hops l r after → Encodes command hops l s other
-    → (r ≡ s) × (after ≡ other)
-encode-unique command hops l {r} {s} v w = (encoded-unique r s (v .answer ∙ sym (w .answer)), v .holds ∙ sym (w .holds))
+pub one-answer : OneAnswer
+one-answer = record { encode = λ command hops buffer r s after other v w. (encoded-unique r s (v .answer ∙ sym (w .answer)), v .holds ∙ sym (w .holds)) }

@@ -1,3 +1,5 @@
 pub mod Frame
 pub mod Encode
 pub mod Writes
+pub mod OneAnswer
+pub mod Limits

@@ -1,6 +1,6 @@
 -- The line figures: through any calls whatever, fed is handed, passed and held together, while fed is below its top. Assumes nothing.
-use mathlib.Core.Path.{_≡_, refl}
-use mathlib.Core.List.{List, [], _∷_}
+use mathlib.Core.Path.{_≡_, refl, sym, subst}
+use mathlib.Core.List.{List}
 use mathlib.Core.Bool.{Bool, true, false, cond}
 use Prim.Native.Nat.{ℕ, _+_, _-_, _<_, _≤_}
 use native.Mathlib.Omega.{arith}
@@ -10,8 +10,8 @@ use lib.Seq.{length-take-le}
 use Rattle.reading.specs.Reading.{Judge, Steady}
 use Rattle.reading.specs.Searching.{Search, found, nothing, sizeFound, search}
 use Rattle.reading.proofs.Search.{movedOver, restOf, search-account}
-use Rattle.line.specs.Line.{Line, fresh, top, atFront, moved, emptied, cleared, fitting, copied, feedCount, feedLine, lineAfter, nextLine}
-use Rattle.line.specs.Calling.{Call, feeds, asksNext, called, afterCalls, Balanced}
+use Rattle.line.specs.Line.{Line, fresh, top, atFront, moved, emptied, cleared, fitting, copied, feedCount, feedLine, lineAfter, nextLine, Balanced}
+use Rattle.line.specs.Runs.{Calls, Reached, at-first, by-feed, by-reply, by-nothing}
 use Rattle.line.proofs.Figures.{held, raised-below, raised-exact}
 
 -- ---- `feed`, part by part: the balance is kept, and fed was no higher before
@@ -38,9 +38,9 @@ cleared-keeps line = by (eqb (line .wpos) 512)
     by false = record { same-fed = refl; balanced = λ t h. h }
 
 -- what it needs of any call: a fed below the top was so before
-record Balances (line after : Line) : Type 0 where
-  rises : after .fed < top → line .fed < top
-  balanced : after .fed < top → Balanced line → Balanced after
+pub record Balances (line after : Line) : Type 0 where
+  pub rises : after .fed < top → line .fed < top
+  pub balanced : after .fed < top → Balanced line → Balanced after
 
 copied-balances : (piece : List ℕ) (n : ℕ) (line : Line) → n ≤ length piece → Balances line (copied piece n line)
 unfolding copied
@@ -50,7 +50,7 @@ copied-balances piece n line h =
       balanced = λ t b. omega (arith, raised-below (line .fed) n t, length-append (line .unread) (take n piece), length-take-le n piece h);
     }
 
-feed-balances : (line : Line) (piece : List ℕ) → Balances line (feedLine line piece)
+pub feed-balances : (line : Line) (piece : List ℕ) → Balances line (feedLine line piece)
 unfolding feedLine feedCount fitting
 feed-balances line piece =
     let first = moved (length piece) line in
@@ -74,22 +74,24 @@ module _ {R : Type 0} (judge : Judge R) (steady : Steady judge) where
   search-balances line (nothing over rest) a =
       record { rises = λ t. t; balanced = λ t b. omega (arith, raised-exact (line .passed) over (omega arith)) }
 
-  next-balances : (line : Line) → Balances line (nextLine judge line)
+  pub next-balances : (line : Line) → Balances line (nextLine judge line)
   unfolding nextLine
   next-balances line = search-balances line (search judge (line .unread)) (search-account judge steady (line .unread))
 
-  call-balances : (call : Call) (line : Line) → Balances line (called judge call line)
-  call-balances (feeds piece) line = feed-balances line piece
-  call-balances asksNext line = next-balances line
+-- a decoder, and the line that a state of it holds: what each call does to that line keeps the balance
+pub record Balancing {R : Type 0} (calls : Calls R) (lineOf : calls .State → Line) : Type 0 where
+  pub fresh : {s : calls .State} → calls .Fresh s → lineOf s ≡ fresh
+  pub feeds : {s t : calls .State} {piece : List ℕ} {n : ℕ} → calls .Feeds s piece n t → Balances (lineOf s) (lineOf t)
+  pub gives : {s t : calls .State} {reply : R} → calls .Gives s reply t → Balances (lineOf s) (lineOf t)
+  pub nothing : {s t : calls .State} → calls .GivesNothing s t → Balances (lineOf s) (lineOf t)
 
-  calls-balance : (calls : List Call) (line : Line) → Balances line (afterCalls judge line calls)
-  unfolding afterCalls
-  calls-balance [] line = record { rises = λ t. t; balanced = λ t b. b }
-  calls-balance (call ∷ calls) line =
-      let first = call-balances call line in
-      let rest = calls-balance calls (called judge call line) in
-      record { rises = λ t. first .rises (rest .rises t); balanced = λ t b. rest .balanced t (first .balanced (rest .rises t) b) }
+module _ {R : Type 0} (calls : Calls R) (lineOf : calls .State → Line) (balancing : Balancing calls lineOf) where
+  keeps : {s t : calls .State} → Balances (lineOf s) (lineOf t) → (lineOf s .fed < top → Balanced (lineOf s)) → lineOf t .fed < top → Balanced (lineOf t)
+  keeps b ih below = b .balanced below (ih (b .rises below))
 
-  -- "From a fresh state on, while fed is below 2^64 - 1, fed = handed + passed + held."
-  pub balance : (calls : List Call) → afterCalls judge fresh calls .fed < top → Balanced (afterCalls judge fresh calls)
-  balance calls below = calls-balance calls fresh .balanced below refl
+  -- "From a fresh state on, while fed is below 2^64 - 1, fed = handed + passed + held": whatever was called.
+  pub reached-balance : {s : calls .State} → Reached calls s → lineOf s .fed < top → Balanced (lineOf s)
+  reached-balance (at-first first) below = subst Balanced (sym (balancing .fresh first)) refl
+  reached-balance (by-feed piece n reached feeds) below = keeps (balancing .feeds feeds) (reached-balance reached) below
+  reached-balance (by-reply reply reached given) below = keeps (balancing .gives given) (reached-balance reached) below
+  reached-balance (by-nothing reached none) below = keeps (balancing .nothing none) (reached-balance reached) below

@@ -1,7 +1,6 @@
 pub mod Figures
 pub mod Feeding
-pub mod Asking
-pub mod Playing
-pub mod DemandThree
+pub mod Nexts
+pub mod Runs
 pub mod Balance
 pub mod Loss

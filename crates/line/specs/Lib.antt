@@ -1,3 +1,2 @@
 pub mod Line
-pub mod Playing
-pub mod Calling
+pub mod Runs

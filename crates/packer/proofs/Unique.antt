@@ -4,11 +4,12 @@ use mathlib.Core.Path.{_≡_, refl, sym, ap, _∙_}
 use mathlib.Core.List.{List}
 use Prim.Native.Nat.{ℕ}
 use Rattle.refusals.specs.Refusals.{Answer}
+use Rattle.refusals.specs.OneAnswer.{ToldApart, OnlyOne, OnlyBoth}
 use Rattle.refusals.specs.declared.DecodeError.{DecodeError}
 use Rattle.refusals.proofs.Unique.{told-apart, readBack, writeBack, decode-back, encode-back}
 use Rattle.packer.specs.Reading.{unpackedU8, unpackedU16, unpackedU32, unpackedI16, unpackedI32, unpackedF32, consumed, UuidAt}
 use Rattle.packer.specs.Writing.{packed, Packs}
-use Rattle.packer.specs.declared.UnpackedUuid.{UnpackedUuid}
+use Rattle.packer.specs.OneAnswer.{OneAnswer}
 use Rattle.packer.specs.declared.UnpackedU8.{UnpackedU8}
 use Rattle.packer.specs.declared.UnpackedU8.the-variants as u8
 use Rattle.packer.specs.declared.UnpackedU16.{UnpackedU16}
@@ -35,7 +36,7 @@ unfolding readBack
 u8-back (u8.Got value next) = refl
 u8-back (u8.Refused e) = ap u8.Refused (decode-back e)
 
-pub u8-unique : (a b : UnpackedU8) → unpackedU8 a ≡ unpackedU8 b → a ≡ b
+u8-unique : ToldApart unpackedU8
 u8-unique = told-apart unpackedU8 (placedBack u8.Got u8.Refused) u8-back
 
 u16-back : (a : UnpackedU16) → placedBack u16.Got u16.Refused (unpackedU16 a) ≡ a
@@ -43,7 +44,7 @@ unfolding readBack
 u16-back (u16.Got value next) = refl
 u16-back (u16.Refused e) = ap u16.Refused (decode-back e)
 
-pub u16-unique : (a b : UnpackedU16) → unpackedU16 a ≡ unpackedU16 b → a ≡ b
+u16-unique : ToldApart unpackedU16
 u16-unique = told-apart unpackedU16 (placedBack u16.Got u16.Refused) u16-back
 
 u32-back : (a : UnpackedU32) → placedBack u32.Got u32.Refused (unpackedU32 a) ≡ a
@@ -51,7 +52,7 @@ unfolding readBack
 u32-back (u32.Got value next) = refl
 u32-back (u32.Refused e) = ap u32.Refused (decode-back e)
 
-pub u32-unique : (a b : UnpackedU32) → unpackedU32 a ≡ unpackedU32 b → a ≡ b
+u32-unique : ToldApart unpackedU32
 u32-unique = told-apart unpackedU32 (placedBack u32.Got u32.Refused) u32-back
 
 i16-back : (a : UnpackedI16) → placedBack i16.Got i16.Refused (unpackedI16 a) ≡ a
@@ -59,7 +60,7 @@ unfolding readBack
 i16-back (i16.Got value next) = refl
 i16-back (i16.Refused e) = ap i16.Refused (decode-back e)
 
-pub i16-unique : (a b : UnpackedI16) → unpackedI16 a ≡ unpackedI16 b → a ≡ b
+i16-unique : ToldApart unpackedI16
 i16-unique = told-apart unpackedI16 (placedBack i16.Got i16.Refused) i16-back
 
 i32-back : (a : UnpackedI32) → placedBack i32.Got i32.Refused (unpackedI32 a) ≡ a
@@ -67,7 +68,7 @@ unfolding readBack
 i32-back (i32.Got value next) = refl
 i32-back (i32.Refused e) = ap i32.Refused (decode-back e)
 
-pub i32-unique : (a b : UnpackedI32) → unpackedI32 a ≡ unpackedI32 b → a ≡ b
+i32-unique : ToldApart unpackedI32
 i32-unique = told-apart unpackedI32 (placedBack i32.Got i32.Refused) i32-back
 
 f32-back : (a : UnpackedF32) → placedBack f32.Got f32.Refused (unpackedF32 a) ≡ a
@@ -75,7 +76,7 @@ unfolding readBack
 f32-back (f32.Got value next) = refl
 f32-back (f32.Refused e) = ap f32.Refused (decode-back e)
 
-pub f32-unique : (a b : UnpackedF32) → unpackedF32 a ≡ unpackedF32 b → a ≡ b
+f32-unique : ToldApart unpackedF32
 f32-unique = told-apart unpackedF32 (placedBack f32.Got f32.Refused) f32-back
 
 consumed-back : (a : Consumed) → readBack c.To c.Refused (consumed a) ≡ a
@@ -83,7 +84,7 @@ unfolding readBack
 consumed-back (c.To next) = refl
 consumed-back (c.Refused e) = ap c.Refused (decode-back e)
 
-pub consumed-unique : (a b : Consumed) → consumed a ≡ consumed b → a ≡ b
+consumed-unique : ToldApart consumed
 consumed-unique = told-apart consumed (readBack c.To c.Refused) consumed-back
 
 packed-back : (a : Packed) → writeBack p.Next p.Refused (packed a) ≡ a
@@ -91,11 +92,11 @@ unfolding writeBack
 packed-back (p.Next next) = refl
 packed-back (p.Refused e) = ap p.Refused (encode-back e)
 
-packed-unique : (a b : Packed) → packed a ≡ packed b → a ≡ b
+packed-unique : ToldApart packed
 packed-unique = told-apart packed (writeBack p.Next p.Refused) packed-back
 
 -- a uuid's answer and its bytes
-pub uuid-unique : (s : List ℕ) (at : ℕ) (a b : UnpackedUuid) → UuidAt s at a → UuidAt s at b → a ≡ b
+uuid-unique : (s : List ℕ) (at : ℕ) → OnlyOne (UuidAt s at)
 uuid-unique s at a b x y =
     λ i. record {
       answer = consumed-unique (a .answer) (b .answer) (x .answer ∙ sym (y .answer)) i;
@@ -103,5 +104,19 @@ uuid-unique s at a b x y =
     }
 
 -- a write: the answer, and what the whole slice then holds
-pub packs-unique : (bytes l : List ℕ) (at : ℕ) (a b : Packed) (m o : List ℕ) → Packs bytes l at a m → Packs bytes l at b o → (a ≡ b) × (m ≡ o)
+packs-unique : (bytes l : List ℕ) (at : ℕ) → OnlyBoth (Packs bytes l at)
 packs-unique bytes l at a b m o x y = (packed-unique a b (x .answer ∙ sym (y .answer)), x .holds ∙ sym (y .holds))
+
+pub one-answer : OneAnswer
+one-answer =
+    record {
+      u8 = u8-unique;
+      u16 = u16-unique;
+      u32 = u32-unique;
+      i16 = i16-unique;
+      i32 = i32-unique;
+      f32 = f32-unique;
+      consumes = consumed-unique;
+      uuid = uuid-unique;
+      packs = packs-unique;
+    }

@@ -1,16 +1,17 @@
--- An answer is the only one: two errors with one refusal are the same, and so the maps that the promises go through lose nothing. Assumes nothing.
+-- Two errors with one refusal are the same, and so the maps that the promises go through lose nothing. Assumes nothing.
 use mathlib.Core.Path.{_≡_, refl, sym, ap, _∙_}
 use mathlib.Core.Bool.{cond}
 use lib.Dec.{eqb}
 use lib.ListN.{getD}
 use Rattle.refusals.specs.Refusals.{Refusal, Answer, given, refused, decodeRefusal, encodeRefusal}
+use Rattle.refusals.specs.OneAnswer.{ToldApart, OneAnswer}
 use Rattle.refusals.specs.declared.DecodeError.{DecodeError}
 use Rattle.refusals.specs.declared.DecodeError.the-variants.{IncompleteData, InvalidFrame, UnknownPacket, ChecksumMismatch}
 use Rattle.refusals.specs.declared.EncodeError.{EncodeError}
 use Rattle.refusals.specs.declared.EncodeError.the-variants.{BufferTooSmall, PayloadTooLong}
 
 -- a map with a way back tells its arguments apart
-pub told-apart : {A B : Type 0} (f : A → B) (back : B → A) → ((a : A) → back (f a) ≡ a) → (a b : A) → f a ≡ f b → a ≡ b
+pub told-apart : {A B : Type 0} (f : A → B) (back : B → A) → ((a : A) → back (f a) ≡ a) → ToldApart f
 told-apart f back same a b e = sym (same a) ∙ ap back e ∙ same b
 
 -- the error with a number, and with the values returned with it
@@ -44,8 +45,5 @@ unfoldable pub writeBack : {A R : Type 0} → (A → R) → (EncodeError → R) 
 writeBack got err (given value) = got value
 writeBack got err (refused why) = err (encodeBack why)
 
-pub decode-errors-apart : (a b : DecodeError) → decodeRefusal a ≡ decodeRefusal b → a ≡ b
-decode-errors-apart = told-apart decodeRefusal decodeBack decode-back
-
-pub encode-errors-apart : (a b : EncodeError) → encodeRefusal a ≡ encodeRefusal b → a ≡ b
-encode-errors-apart = told-apart encodeRefusal encodeBack encode-back
+pub one-answer : OneAnswer
+one-answer = record { decode-errors = told-apart decodeRefusal decodeBack decode-back; encode-errors = told-apart encodeRefusal encodeBack encode-back }

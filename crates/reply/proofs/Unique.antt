@@ -3,17 +3,18 @@ use mathlib.Core.Path.{_≡_, refl, ap}
 use mathlib.Core.Bool.{cond}
 use Prim.Native.Nat.{ℕ}
 use lib.Dec.{eqb}
+use Rattle.refusals.specs.OneAnswer.{ToldApart}
 use Rattle.refusals.proofs.Unique.{told-apart}
-use Rattle.envelope.proofs.Unique.{judge-unique}
+use Rattle.envelope.proofs.Unique as envelope
 use Rattle.reply.specs.Reply.{kindNumber}
 use Rattle.reply.specs.Decode.{Decode, decoded}
-use Rattle.reply.specs.declared.Decoded.{Decoded}
+use Rattle.reply.specs.OneAnswer.{OneAnswer}
 use Rattle.reply.specs.declared.Kind.{Kind}
 use Rattle.reply.specs.declared.Kind.the-variants as Kind
 
-pub decode-unique : (a b : Decoded) → decoded a ≡ decoded b → a ≡ b
+decode-unique : ToldApart decoded
 decode-unique a b e =
-    λ i. record { answer = judge-unique (a .answer) (b .answer) (ap (λ (d : Decode). d .answer) e) i; reply = ap (λ (d : Decode). d .reply) e i }
+    λ i. record { answer = envelope.one-answer .judge (a .answer) (b .answer) (ap (λ (d : Decode). d .answer) e) i; reply = ap (λ (d : Decode). d .reply) e i }
 
 kindBack : ℕ → Kind
 kindBack n =
@@ -34,5 +35,5 @@ kind-back Kind.GetStats = refl
 kind-back Kind.ResetStats = refl
 kind-back Kind.FwInfo = refl
 
-pub kinds-apart : (a b : Kind) → kindNumber a ≡ kindNumber b → a ≡ b
-kinds-apart = told-apart kindNumber kindBack kind-back
+pub one-answer : OneAnswer
+one-answer = record { decode = decode-unique; kinds = told-apart kindNumber kindBack kind-back }

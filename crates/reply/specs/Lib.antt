@@ -1,2 +1,3 @@
 pub mod Reply
 pub mod Decode
+pub mod OneAnswer

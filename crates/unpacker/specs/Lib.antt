@@ -1,1 +1,2 @@
 pub mod Unpacker
+pub mod OneAnswer

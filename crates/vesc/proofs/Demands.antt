@@ -8,7 +8,7 @@ use mathlib.Core.Bool.{Bool, true, false, not}
 use lib.Dec.{T, ltb, eqb, ltb→lt, nltb→le}
 use mathlib.Core.Logic.{_↔_, inl, inr}
 use borrow.Author.Tests.{eq-eqb, ne-eqb, eqb-true, eqb-false}
-use Rattle.refusals.specs.Refusals.{Refusal, Answer, given, refused, incompleteData, invalidFrame, unknownPacket, checksumMismatch, bufferTooSmall, payloadTooLong}
+use Rattle.refusals.specs.Refusals.{Refusal, Answer, given, refused, incompleteData, invalidFrame, unknownPacket, checksumMismatch, bufferTooSmall, payloadTooLong, decodeRefusal}
 use Rattle.refusals.proofs.Different.{none}
 use Rattle.checksum.specs.Xmodem.{checksumOf}
 use Rattle.checksum.proofs.Remainder.{register-is-remainder}
@@ -23,15 +23,17 @@ use Rattle.frame.proofs.Exact.{refused-writes-nothing}
 use Rattle.frame.proofs.Tests.{answer-too-long, answer-too-small, answer-fits}
 use Rattle.command.specs.declared.Command.{Command}
 use Rattle.frame.specs.declared.Encoded.{Encoded}
-use Rattle.envelope.specs.Envelope.{judgeOf, fieldsEnd, finishOf, judgeSumOf, payloadPart}
+use Rattle.envelope.specs.Envelope.{judged, judgeOf, fieldsEnd, finishOf, judgeSumOf, payloadPart}
 use Rattle.fields.specs.Fields.{valuesTable, setupTable, statsTable}
 use Rattle.envelope.proofs.Order as order
 use Rattle.envelope.proofs.Refusals.{OneOrTwo, masked-plain, get-values-plain, fw-version-plain, fw-info-plain}
 use Rattle.envelope.proofs.Good.{good-judged}
-use Rattle.reply.specs.Decode.{replyBy, decodeOf}
+use Rattle.reply.specs.Decode.{Decode, replyBy, decodeOf, decoded}
+use Rattle.reply.specs.declared.Decoded.{Decoded}
 use Rattle.reply.specs.Reply.{emptyReply}
+use Rattle.line.proofs.Runs.{run-front, run-reached}
 use Rattle.decoder.proofs.DemandThree as stream
-use Rattle.vesc.specs.Demands.{EncodeRefuses, DecodeRefuses, Fields, NoneOf, replyIds, Way, no-start, start-wrong, no-length, no-id, unknown-id, no-field, no-nul, length-wrong, no-end, end-wrong, sum-wrong, good, answerOf, DemandOne, DemandTwo, DemandThree, carried, summed}
+use Rattle.vesc.specs.Demands.{EncodeRefuses, DecodeRefuses, Fields, NoneOf, replyIds, Way, no-start, start-wrong, no-length, no-id, unknown-id, no-field, no-nul, length-wrong, no-end, end-wrong, sum-wrong, good, answerOf, DemandOne, DemandTwo, DemandThree, FiguresBalance, carried, summed}
 
 -- ---- a fact or its other side
 by-order : {C : Type 0} (a b : ℕ) → (a < b → C) → (b ≤ a → C) → C
@@ -186,9 +188,15 @@ module _ (s : List ℕ) where
   answer (sum-wrong f there end differs) = sum-is-wrong f there end differs
   answer (good f there end same) = all-good f there end same
 
-  decode-refuses : DecodeRefuses s
-  unfolding decodeOf
-  decode-refuses = record { goes = goes; answer = answer; empty = empty-by }
+decode-refuses : (s : List ℕ) (d : Decoded) → decoded d ≡ decodeOf s → DecodeRefuses s d
+unfolding decodeOf
+decode-refuses s d is =
+    let judgement : judged (d .answer) ≡ judgeOf s = ap (λ (o : Decode). o .answer) is in
+    record {
+      goes = goes s;
+      answer = λ way. judgement ∙ answer s way;
+      empty = λ e refuses. ap (λ (o : Decode). o .reply) is ∙ empty-by s (decodeRefusal e) (sym judgement ∙ ap judged refuses);
+    }
 
 pub demand-one : DemandOne
 demand-one = record { encode = encode-refuses; decode = decode-refuses }
@@ -199,7 +207,12 @@ demand-two = record { checksum = register-is-remainder; check-value = check-valu
 pub demand-three : DemandThree
 demand-three =
     record {
-      replies = λ pieces some. stream.demand-three pieces some .0;
-      taken = stream.every-piece-taken;
-      in-time = stream.in-time;
+      as-read = λ run. record { stream = run-front run; in-order = stream.run-replies run; unread = stream.run-unread run; in-time = stream.in-time run };
+      whole = λ run. stream.whole-reading run;
+      exists = stream.runs-whole;
+      ends = λ run. stream.ends run;
+      takes-some = λ run. stream.takes-some run;
     }
+
+pub figures-balance : FiguresBalance
+figures-balance = record { balance = λ reached. stream.balance reached; in-runs = λ run. run-reached run }

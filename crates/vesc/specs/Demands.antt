@@ -1,14 +1,15 @@
--- The three demands of the person we build for, each with its words, as records whose fields are the claims. They are stated of the definitions that the
--- contracts of the public functions equal; proofs/Demands.antt has one of each. Assumes nothing.
+-- The three demands of the person we build for, each with its words, as records whose fields are the claims. They are stated of every answer that meets the contracts of
+-- the public functions, and of the definitions that these contracts cite; proofs/Demands.antt has one of each. docs/FORMAT.md has document 01's rules in our words. Assumes nothing.
 use mathlib.Core.Path.{_≡_}
 use mathlib.Core.Bool.{true}
 use mathlib.Core.Logic.{_↔_}
 use mathlib.Core.List.{List, [], _∷_, _++_}
-use Prim.Native.Nat.{ℕ, _+_, _^_, _≤_, _<_}
+use Prim.Native.Nat.{ℕ, _+_, _-_, _^_, _≤_, _<_}
 use lib.IntN.{ℤ}
 use lib.ListN.{length, getD, take, drop}
-use Rattle.refusals.specs.Refusals.{Refusal, Answer, given, refused, incompleteData, invalidFrame, unknownPacket, checksumMismatch, bufferTooSmall, payloadTooLong}
+use Rattle.refusals.specs.Refusals.{Answer, given, refused, incompleteData, invalidFrame, unknownPacket, checksumMismatch, bufferTooSmall, payloadTooLong}
 use Rattle.refusals.specs.declared.EncodeError.{EncodeError}
+use Rattle.refusals.specs.declared.DecodeError.{DecodeError}
 use Rattle.checksum.specs.Xmodem.{checksumOf, registerOf}
 use Rattle.floats.specs.Near.{ReadingNear, size}
 use Rattle.text.specs.Utf8.{wellFormed, WellFormed}
@@ -18,15 +19,21 @@ use Rattle.frame.specs.Encode.{Encodes, encoded}
 use Rattle.command.specs.declared.Command.{Command}
 use Rattle.frame.specs.declared.Encoded.{Encoded}
 use Rattle.frame.specs.declared.Encoded.the-variants.{Refused}
-use Rattle.envelope.specs.Envelope.{fieldsEnd, payloadPart}
-use Rattle.reply.specs.Decode.{decodeOf}
+use Rattle.envelope.specs.Envelope.{fieldsEnd, payloadPart, judged}
+use Rattle.envelope.specs.declared.Judged.the-variants as Judged
+use Rattle.reply.specs.Decode.{decodeOf, decoded}
+use Rattle.reply.specs.declared.Decoded.{Decoded}
 use Rattle.reply.specs.Reply.{emptyReply}
 use Rattle.reply.specs.declared.CommandReply.{CommandReply}
 use Rattle.reading.specs.Reading.{reading, repliesOf, joined, takes}
 use Rattle.reading.specs.Lateness.{NoneOver}
-use Rattle.line.specs.Line.{fresh}
-use Rattle.line.specs.Playing.{played, Nonempty, GivenSoFar, offerTurns}
+use Rattle.line.specs.Runs.{Nonempty, GivenSoFar}
+use Rattle.decoder.specs.declared.Decoder.{Decoder}
+use Rattle.decoder.specs.declared.Fed.{Fed}
+use Rattle.decoder.specs.declared.Figures.{Figures}
 use Rattle.decoder.specs.Frames.{frames}
+use Rattle.decoder.specs.State.{lineOf, figuresOf, FeedIs}
+use Rattle.decoder.specs.Runs.{Run, Ends, Reached}
 
 -- "1. No call traps, hangs or relies on its caller. IncompleteData, InvalidFrame, UnknownPacket, ChecksumMismatch, BufferTooSmall and PayloadTooLong come exactly when
 -- document 01 says. A refused encode writes nothing."
@@ -95,16 +102,16 @@ answerOf (end-wrong f there differs) = refused invalidFrame
 answerOf {s} (sum-wrong f there end differs) = refused (checksumMismatch (carried s) (summed s))
 answerOf {s} (good f there end same) = given (getD s 1 0 + 5)
 
--- Every slice goes one of the ways, and is answered as that way says: so each refusal comes exactly where document 01 says.
-pub record DecodeRefuses (s : List ℕ) : Type 0 where
+-- Whatever `decode` answers of a slice: d. The slice goes one of the ways, and is answered as that way says: so each refusal comes exactly where document 01 says.
+pub record DecodeRefuses (s : List ℕ) (d : Decoded) : Type 0 where
   pub goes : Way s
-  pub answer : (way : Way s) → decodeOf s .answer ≡ answerOf way
+  pub answer : (way : Way s) → judged (d .answer) ≡ answerOf way
   -- "all of them on a refusal": the reply is then the empty one
-  pub empty : (why : Refusal) → decodeOf s .answer ≡ refused why → decodeOf s .reply ≡ emptyReply
+  pub empty : (e : DecodeError) → d .answer ≡ Judged.Refused e → d .reply ≡ emptyReply
 
 pub record DemandOne : Type 0 where
   pub encode : (command : Command) (hops buffer : List ℕ) (r : Encoded) (after : List ℕ) → Encodes command hops buffer r after → EncodeRefuses command hops buffer r after
-  pub decode : (s : List ℕ) → DecodeRefuses s
+  pub decode : (s : List ℕ) (d : Decoded) → decoded d ≡ decodeOf s → DecodeRefuses s d
 
 -- "2. Within document 01's domain, bytes, readings and refusals equal the Rust's. Checksum, float rounding and name text are proved against CRC-16/XMODEM, IEEE 754 and Unicode."
 -- Bytes, readings and refusals equal the definitions that the contracts cite (docs/PROMISES.md); that the Rust's are the same is run, not proved. The sum is the remainder of long division by
@@ -121,13 +128,36 @@ pub record DemandTwo : Type 0 where
 -- "3. Start the streaming decoder fresh. Hand it nonempty pieces, after each ask until it has no reply, and offer again what it did not take. Then for every stream and every such cutting the replies are those of one
 -- left-to-right reading of the uncut stream, in order and no others. A good frame overlapped by no earlier frame of that reading is given, however damaged the bytes before it, once 109 bytes counted from its
 -- first, or its own last byte if that is later, have been taken in and asked for."
--- `played` is `feed` and `next` as their contracts define them; `reading` is defined from `decode` alone.
+-- A `Run` is that use of the decoder, in any cutting, up to any `next` that gave nothing, also in the middle of a piece: `ahead` are the pieces that are still to be offered, `taken` the bytes taken in
+-- so far, then the replies so far, and d, the decoder then. It may be any that calls with the contracts of `new`, `feed` and `next` (`Holds fresh`, `FeedIs`, `NextIs`) can make.
+-- `joined pieces` is the uncut stream; `reading` is defined from `decode` alone.
+pub record AsRead (pieces ahead : List (List ℕ)) (taken : List ℕ) (replies : List CommandReply) (d : Decoder) : Type 0 where
+  -- what is taken and what is ahead are the stream
+  pub stream : joined pieces ≡ taken ++ joined ahead
+  -- the replies so far are those of the reading of what is taken, in order and no others; what that reading leaves is unread
+  pub in-order : replies ≡ repliesOf (reading frames taken .given)
+  pub unread : lineOf d .unread ≡ reading frames taken .rest
+  -- The frame, good by its own n bytes, stands at p of the stream. No earlier frame of the stream's reading reaches over p. Its own last byte is taken, and 109 bytes counted from its first are:
+  -- then its reply is among those given, at its place
+  pub in-time : (p n : ℕ) (reply : CommandReply) → frames (take n (drop p (joined pieces))) ≡ takes n reply → NoneOver p (reading frames (joined pieces) .given)
+      → p + n ≤ length taken → p + 109 ≤ length taken
+      → GivenSoFar p n reply (reading frames (joined pieces) .given) replies
+
 pub record DemandThree : Type 0 where
-  pub replies : (pieces : List (List ℕ)) → Nonempty pieces → played frames emptyReply fresh pieces .replies ≡ repliesOf (reading frames (joined pieces) .given)
-  -- every piece is taken whole, by as many offers as it has bytes at most
-  pub taken : (pieces : List (List ℕ)) (piece : List ℕ) → Nonempty pieces → 0 < length piece
-      → offerTurns frames emptyReply (length piece) (played frames emptyReply fresh pieces .line) piece .left ≡ []
-  pub in-time : (pieces : List (List ℕ)) (later : List ℕ) (p n : ℕ) (reply : CommandReply) → Nonempty pieces
-      → frames (take n (drop p (joined pieces ++ later))) ≡ takes n reply → NoneOver p (reading frames (joined pieces ++ later) .given)
-      → p + n ≤ length (joined pieces) → p + 109 ≤ length (joined pieces)
-      → GivenSoFar p n reply (reading frames (joined pieces ++ later) .given) (played frames emptyReply fresh pieces .replies)
+  pub as-read : {pieces ahead : List (List ℕ)} {taken : List ℕ} {replies : List CommandReply} {d : Decoder} → Run pieces ahead taken replies d → AsRead pieces ahead taken replies d
+  -- nothing is ahead: "the replies are those of one left-to-right reading of the uncut stream"
+  pub whole : {pieces : List (List ℕ)} {taken : List ℕ} {replies : List CommandReply} {d : Decoder} → Run pieces [] taken replies d
+      → replies ≡ repliesOf (reading frames (joined pieces) .given)
+  -- Every cutting into nonempty pieces has such a run to its end. And from any point of any run on, whatever the calls answer, it comes to an end
+  pub exists : (pieces : List (List ℕ)) → Nonempty pieces → (replies : List CommandReply) × (d : Decoder) × Run pieces [] (joined pieces) replies d
+  pub ends : {pieces ahead : List (List ℕ)} {taken : List ℕ} {replies : List CommandReply} {d : Decoder} → Run pieces ahead taken replies d → Nonempty ahead → Ends ahead d
+  -- because each offer takes a byte or more
+  pub takes-some : {pieces ahead : List (List ℕ)} {taken : List ℕ} {replies : List CommandReply} {d : Decoder} → Run pieces ahead taken replies d
+      → (piece : List ℕ) (fed : Fed) → 0 < length piece → FeedIs d piece fed → 0 < fed .count
+
+-- Document 01's line figures: "From a fresh state on, while fed is below 2^64 - 1, fed = handed + passed + held", as `figures` reports them after any calls whatever, empty pieces fed too
+pub record FiguresBalance : Type 0 where
+  pub balance : {d : Decoder} → Reached d → (figures : Figures) → figures ≡ figuresOf (lineOf d) → figures .fed < 2 ^ 64 - 1
+      → figures .fed ≡ figures .handed + figures .passed + figures .held
+  -- the decoders of a run are among them
+  pub in-runs : {pieces ahead : List (List ℕ)} {taken : List ℕ} {replies : List CommandReply} {d : Decoder} → Run pieces ahead taken replies d → Reached d

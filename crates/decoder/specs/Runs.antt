@@ -1,0 +1,42 @@
+-- Runs of the decoder, as its calls' contracts have it: whatever meets a contract may be handed back. Crate `line` defines a run. Assumes nothing.
+use mathlib.Core.Bool.{true, false}
+use mathlib.Core.List.{List}
+use Prim.Native.Nat.{ℕ, _<_}
+use lib.ListN.{length}
+use Rattle.line.specs.Line.{fresh}
+use Rattle.line.specs.Runs as runs
+use Rattle.reply.specs.declared.CommandReply.{CommandReply}
+use Rattle.decoder.specs.declared.Decoder.{Decoder}
+use Rattle.decoder.specs.State.{Holds, FeedIs, NextIs}
+
+-- with any feed: the pieces that may be offered, and what of one is taken
+abbrev pub callsBy : (List ℕ → Type 0) → (Decoder → List ℕ → ℕ → Decoder → Type 0) → runs.Calls CommandReply
+callsBy Piece Feeds =
+    record {
+      State = Decoder;
+      Fresh = λ d. Holds fresh d;
+      Piece = Piece;
+      Feeds = Feeds;
+      Gives = λ d reply e. (count : ℕ) × NextIs d (record { given = true; count = count; reply = reply; decoder = e });
+      GivesNothing = λ d e. (count : ℕ) × (reply : CommandReply) × NextIs d (record { given = false; count = count; reply = reply; decoder = e });
+    }
+
+abbrev pub FeedTakes : Decoder → List ℕ → ℕ → Decoder → Type 0
+FeedTakes d piece n e = FeedIs d piece (record { count = n; decoder = e })
+
+-- "Hand it nonempty pieces"
+abbrev pub calls : runs.Calls CommandReply
+calls = callsBy (λ piece. 0 < length piece) FeedTakes
+
+-- "Start the streaming decoder fresh. Hand it nonempty pieces, after each ask until it has no reply, and offer again what it did not take.": the run of a cutting, up to some `next`
+-- that gave nothing, with the pieces still ahead, what is taken so far, the replies so far, and the decoder then
+abbrev pub Run : (pieces ahead : List (List ℕ)) (taken : List ℕ) (replies : List CommandReply) → Decoder → Type 0
+Run = runs.Run calls
+
+-- offering these pieces to the decoder, and asking, comes to an end whatever the calls answer
+abbrev pub Ends : (ahead : List (List ℕ)) → Decoder → Type 0
+Ends = runs.Ends calls
+
+-- a decoder that any calls make of a fresh one, empty pieces fed too
+abbrev pub Reached : Decoder → Type 0
+Reached = runs.Reached calls
