@@ -16,6 +16,20 @@ fn say(what: &[u8], number: usize) {
     }
 }
 
+// A number with its sign. Every i32 has its opposite among the i64.
+fn say_signed(what: &[u8], number: i32) {
+    let wide = number as i64;
+    if wide < 0 {
+        let ok = io::write_all(STDOUT_FILENO, what) && io::write_all(STDOUT_FILENO, b"-");
+        if !ok {
+            os::fail(b"example: standard output");
+        }
+        say(b"", (0 - wide) as usize);
+    } else {
+        say(what, wide as usize);
+    }
+}
+
 fn encoding() {
     let mut buf = [0u8; 64];
     let query = Command::GetValuesSelective(ValuesMask::RPM | ValuesMask::VOLTAGE_IN);
@@ -38,6 +52,8 @@ fn decoding(received: &[u8]) {
                 Kind::GetValuesSelective => {
                     let values = reply.values;
                     let fault = values.fault_code;
+                    say_signed(b"rpm: ", floats::f32_to_i32(values.rpm));
+                    say_signed(b"millivolts: ", floats::unscaled(values.voltage_in, 1000.0));
                     say(b"fault code: ", vesc::fault_number(fault) as usize);
                 }
                 _ => say(b"another reply: ", kind.number() as usize),
@@ -90,7 +106,28 @@ fn received(start: Decoder, piece: &[u8]) -> Decoder {
 
 fn main() {
     encoding();
-    decoding(&[2, 6, 50, 0, 0, 128, 0, 5, 207, 51, 3]);
+    decoding(&[2, 11, 50, 0, 0, 1, 128, 0, 0, 4, 210, 1, 176, 230, 49, 3]);
+    decoding(
+        &[
+            2,
+            12,
+            50,
+            0,
+            0,
+            129,
+            128,
+            255,
+            255,
+            250,
+            36,
+            1,
+            176,
+            5,
+            250,
+            27,
+            3,
+        ],
+    );
     decoding(&[2, 1, 129, 129, 169, 3]);
     decoding(&[2, 1, 129, 129, 168, 3]);
     let decoder = received(Decoder::new(), &[255, 2, 1, 129]);
