@@ -35,21 +35,6 @@ run-front (offers {ahead} {piece} {taken} {n = n} run may feeds asked) =
     ∙ sym (append-assoc taken (take n piece) (joined (again (drop n piece) ahead)))
 run-front (recuts {taken = taken} other run same) = run-front run ∙ ap (λ (l : List ℕ). taken ++ l) (sym same)
 
--- Every state of a run is one that calls make of a fresh one.
-asked-reached : {R : Type 0} {calls : Calls R} {s u : calls .State} {replies : List R} → Reached calls s → Asked calls s replies u → Reached calls u
-asked-reached reached (ends none) = by-nothing reached none
-asked-reached reached (gives {reply = reply} given asked) = asked-reached (by-reply reply reached given) asked
-
-pub run-reached : {R : Type 0} {calls : Calls R} {pieces ahead : List (List ℕ)} {taken : List ℕ} {replies : List R} {s : calls .State} → Run calls pieces ahead taken replies s → Reached calls s
-run-reached (starts first) = at-first first
-run-reached (offers {piece = piece} {n = n} run may feeds asked) = asked-reached (by-feed piece n (run-reached run) feeds) asked
-run-reached (recuts other run same) = run-reached run
-
--- Where asking ends there are replies that it ends with.
-pub asked-of : {R : Type 0} {calls : Calls R} {s : calls .State} → AskingEnds calls s → (replies : List R) × (u : calls .State) × Asked calls s replies u
-asked-of (asking (no-reply {t} none) on) = ([], t, ends none)
-asked-of (asking (a-reply {t} {reply} given) on) = let rest = asked-of (on reply t given) in (reply ∷ rest .0, rest .1, gives given (rest .2))
-
 -- What is asked of the calls, where `unread` are the bytes that a state holds unread. `next` is one search of them
 pub record Searches {R : Type 0} (judge : Judge R) (calls : Calls R) (unread : calls .State → List ℕ) : Type 0 where
   pub gives : {s t : calls .State} {reply : R} → calls .Gives s reply t → (over : ℕ) × (n : ℕ) × (search judge (unread s) ≡ found over n reply (unread t))
@@ -134,6 +119,21 @@ module _ {R : Type 0} (judge : Judge R) (steady : Steady judge) (calls : Calls R
   pub takes-some : {pieces ahead : List (List ℕ)} {taken : List ℕ} {replies : List R} {s t : calls .State} {n : ℕ} → Run calls pieces ahead taken replies s → (piece : List ℕ) → 0 < length piece → calls .Feeds s piece n t
       → 0 < n
   takes-some run piece some feeds = faithful .some (run-waits run) some feeds
+
+-- Every state of a run is one that calls make of a fresh one.
+asked-reached : {R : Type 0} {calls : Calls R} {s u : calls .State} {replies : List R} → Reached calls s → Asked calls s replies u → Reached calls u
+asked-reached reached (ends none) = by-nothing reached none
+asked-reached reached (gives {reply = reply} given asked) = asked-reached (by-reply reply reached given) asked
+
+pub run-reached : {R : Type 0} {calls : Calls R} {pieces ahead : List (List ℕ)} {taken : List ℕ} {replies : List R} {s : calls .State} → Run calls pieces ahead taken replies s → Reached calls s
+run-reached (starts first) = at-first first
+run-reached (offers {piece = piece} {n = n} run may feeds asked) = asked-reached (by-feed piece n (run-reached run) feeds) asked
+run-reached (recuts other run same) = run-reached run
+
+-- Where asking ends there are replies that it ends with.
+pub asked-of : {R : Type 0} {calls : Calls R} {s : calls .State} → AskingEnds calls s → (replies : List R) × (u : calls .State) × Asked calls s replies u
+asked-of (asking (no-reply {t} none) on) = ([], t, ends none)
+asked-of (asking (a-reply {t} {reply} given) on) = let rest = asked-of (on reply t given) in (reply ∷ rest .0, rest .1, gives given (rest .2))
 
 -- What is asked so that a run can go on: a piece with a byte may be offered, and each call hands something back
 pub record Able {R : Type 0} (calls : Calls R) : Type 0 where
