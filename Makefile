@@ -1,5 +1,5 @@
-# The two commands of README.md: `make run` does the main job, `make test` is the gate.
-.PHONY: run test fmt
+# The three commands of README.md: `make run` does the main job, `make test` is the gate, `make check` is for the edit loop.
+.PHONY: run test check fmt
 
 # Standard input through vescline, or a stored line's bytes where there is none: make run < capture
 run:
@@ -12,6 +12,10 @@ test:
 	@! awk '/^```rust/ {on = 1; next} /^```/ {on = 0} on && NF' README.md | grep -vxFf crates/example/src/main.rt || { echo "README.md shows code that crates/example does not have" >&2; exit 1; }
 	@tools/test-vescline
 	@rt ci
+
+# Proves every crate that changed and runs the programs, without the must-fail edits.
+check:
+	@rt check
 
 fmt:
 	@rt fmt
