@@ -3,3 +3,4 @@ pub mod Passing
 pub mod Rule
 pub mod Parts
 pub mod Examples
+pub mod Ends

@@ -1,12 +1,13 @@
 -- Document 01, "Reply fields": the text of a name. Assumes nothing.
 use mathlib.Core.Path.{_≡_}
-use mathlib.Core.Bool.{Bool, false, cond}
+use mathlib.Core.Bool.{Bool, true, false, cond}
 use mathlib.Core.List.{List, []}
-use Prim.Native.Nat.{ℕ, _-_, _≤_}
-use lib.ListN.{length, take}
+use mathlib.Core.Logic.{_↔_}
+use Prim.Native.Nat.{ℕ, _-_, _≤_, _<_}
+use lib.ListN.{length, getD, take}
 use Rattle.refusals.specs.Refusals.{Answer, given, refused}
 use Rattle.names.specs.Names.{nulWithin}
-use Rattle.text.specs.Utf8.{wellFormed}
+use Rattle.text.specs.Utf8.{wellFormed, WellFormed}
 
 -- the first NUL of a name's bytes, by the place after it
 unfoldable pub firstNul : List ℕ → Answer ℕ
@@ -35,3 +36,22 @@ pub record FoundText (name : List ℕ) (has : Bool) (size : ℕ) : Type 0 where
   pub said : has ≡ hasText name
   pub inside : size ≤ length name
   pub part : take size name ≡ textOf name
+
+-- A claim on the two functions that the contracts cite, in words that need neither of them.
+
+-- the first NUL of a name stands at k; past the end `getD` gives 1, which is no NUL
+pub record FirstNulAt (name : List ℕ) (k : ℕ) : Type 0 where
+  pub inside : k < length name
+  pub nul : getD name k 1 ≡ 0
+  pub first : (j : ℕ) → j < k → getD name j 1 ≡ 0 → ⊥
+
+-- a name has a text of k bytes: its first NUL stands at k, and the k bytes before it are well-formed by Unicode's table
+pub record TextEndsAt (name : List ℕ) (k : ℕ) : Type 0 where
+  pub nul : FirstNulAt name k
+  pub formed : WellFormed (take k name)
+
+-- `has` says whether a name has a text, and `part` is that text: the k bytes, or no byte where there is no text
+pub record TextOfName (name : List ℕ) (has : Bool) (part : List ℕ) : Type 0 where
+  pub exactly : (has ≡ true) ↔ ((k : ℕ) × TextEndsAt name k)
+  pub bytes : (k : ℕ) → TextEndsAt name k → part ≡ take k name
+  pub absent : ((k : ℕ) → TextEndsAt name k → ⊥) → part ≡ []

@@ -15,6 +15,7 @@ use Rattle.checksum.proofs.Remainder.{register-is-remainder}
 use Rattle.checksum.proofs.CheckValue.{check-value}
 use Rattle.floats.proofs.Reading.{reading-near}
 use Rattle.text.proofs.Rule.{well-formed-iff}
+use Rattle.text.proofs.Ends.{text-of-name}
 use Rattle.packer.specs.Numbers.{beAt}
 use Rattle.packer.specs.Reading.{unsignedAt}
 use Rattle.packer.proofs.Places.{got, lacking, lent-whole}
@@ -202,7 +203,14 @@ pub demand-one : DemandOne
 demand-one = record { encode = encode-refuses; decode = decode-refuses }
 
 pub demand-two : DemandTwo
-demand-two = record { checksum = register-is-remainder; check-value = check-value; rounding = reading-near; text = well-formed-iff }
+demand-two =
+    record {
+      checksum = register-is-remainder;
+      check-value = check-value;
+      rounding = reading-near;
+      text = well-formed-iff;
+      name-text = text-of-name;
+    }
 
 pub demand-three : DemandThree
 demand-three =

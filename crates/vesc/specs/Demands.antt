@@ -1,7 +1,7 @@
 -- The three demands of the person we build for, each with its words, as records whose fields are the claims. They are stated of every answer that meets the contracts of
 -- the public functions, and of the definitions that these contracts cite; proofs/Demands.antt has one of each. docs/FORMAT.md has document 01's rules in our words. Assumes nothing.
 use mathlib.Core.Path.{_≡_}
-use mathlib.Core.Bool.{true}
+use mathlib.Core.Bool.{Bool, true}
 use mathlib.Core.Logic.{_↔_}
 use mathlib.Core.List.{List, [], _∷_, _++_}
 use Prim.Native.Nat.{ℕ, _+_, _-_, _^_, _≤_, _<_}
@@ -13,6 +13,7 @@ use Rattle.refusals.specs.declared.DecodeError.{DecodeError}
 use Rattle.checksum.specs.Xmodem.{checksumOf, registerOf}
 use Rattle.floats.specs.Near.{ReadingNear, size}
 use Rattle.text.specs.Utf8.{wellFormed, WellFormed}
+use Rattle.text.specs.Text.{hasText, textOf, TextOfName}
 use Rattle.packer.specs.Numbers.{beAt}
 use Rattle.frame.specs.Frame.{payloadOf}
 use Rattle.frame.specs.Encode.{Encodes, encoded}
@@ -124,6 +125,8 @@ pub record DemandTwo : Type 0 where
   pub rounding : (raw : ℤ) (scale : ℕ) → size raw ≤ 2 ^ 31 → 0 < scale → scale ≤ 2 ^ 24 → ReadingNear raw scale
   -- Unicode's table 3-7
   pub text : (bytes : List ℕ) → (wellFormed bytes ≡ true) ↔ WellFormed bytes
+  -- whatever `has_text` and `text` return of a name: it has a text exactly where the bytes before its first NUL are well-formed, and the text is those bytes
+  pub name-text : (name : List ℕ) (has : Bool) (part : List ℕ) → has ≡ hasText name → part ≡ textOf name → TextOfName name has part
 
 -- "3. Start the streaming decoder fresh. Hand it nonempty pieces, after each ask until it has no reply, and offer again what it did not take. Then for every stream and every such cutting the replies are those of one
 -- left-to-right reading of the uncut stream, in order and no others. A good frame overlapped by no earlier frame of that reading is given, however damaged the bytes before it, once 109 bytes counted from its
