@@ -15,7 +15,7 @@ use Rattle.fields.specs.Rows.{fieldsBy, Rows}
 use Rattle.fields.specs.Reading.{padded, unpackedRaws, noFields, FieldsAt}
 use Rattle.fields.specs.declared.UnpackedFields.{UnpackedFields}
 
-raws-length : (table : List Field) (mask : ℕ) (s : List ℕ) (at : ℕ) → length (rawsAt table mask s at) ≡ length table
+pub raws-length : (table : List Field) (mask : ℕ) (s : List ℕ) (at : ℕ) → length (rawsAt table mask s at) ≡ length table
 unfolding rawsAt
 raws-length [] mask s at = refl
 raws-length (f ∷ table) mask s at = ap suc (raws-length table mask s (at + takes mask f))

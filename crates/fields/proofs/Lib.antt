@@ -4,3 +4,4 @@ pub mod Numbers
 pub mod Unique
 pub mod OwnBytes
 pub mod Turns
+pub mod Places

@@ -1,3 +1,4 @@
 pub mod Answers
 pub mod Prefix
 pub mod Unique
+pub mod Nearness

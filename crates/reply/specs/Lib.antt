@@ -1,3 +1,4 @@
 pub mod Reply
 pub mod Decode
 pub mod OneAnswer
+pub mod Nearness

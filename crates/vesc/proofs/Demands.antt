@@ -33,6 +33,7 @@ use Rattle.reply.specs.Decode.{Decode, replyBy, decodeOf, decoded}
 use Rattle.reply.specs.declared.Decoded.{Decoded}
 use Rattle.reply.specs.Reply.{emptyReply}
 use Rattle.line.proofs.Runs.{run-front, run-reached}
+use Rattle.reply.proofs.Nearness.{decoded-near}
 use Rattle.decoder.proofs.DemandThree as stream
 use Rattle.vesc.specs.Demands.{EncodeRefuses, DecodeRefuses, Fields, NoneOf, replyIds, Way, no-start, start-wrong, no-length, no-id, unknown-id, no-field, no-nul, length-wrong, no-end, end-wrong, sum-wrong, good, answerOf, DemandOne, DemandTwo, DemandThree, FiguresBalance, carried, summed}
 
@@ -208,6 +209,7 @@ demand-two =
       checksum = register-is-remainder;
       check-value = check-value;
       rounding = reading-near;
+      readings = decoded-near;
       text = well-formed-iff;
       name-text = text-of-name;
     }

@@ -15,6 +15,7 @@ use Rattle.floats.specs.Near.{ReadingNear, size}
 use Rattle.text.specs.Utf8.{wellFormed, WellFormed}
 use Rattle.text.specs.Text.{hasText, textOf, TextOfName}
 use Rattle.packer.specs.Numbers.{beAt}
+use Rattle.packer.specs.Nearness.{Bytes}
 use Rattle.frame.specs.Frame.{payloadOf}
 use Rattle.frame.specs.Encode.{Encodes, encoded}
 use Rattle.command.specs.declared.Command.{Command}
@@ -23,6 +24,7 @@ use Rattle.frame.specs.declared.Encoded.the-variants.{Refused}
 use Rattle.envelope.specs.Envelope.{fieldsEnd, payloadPart, judged}
 use Rattle.envelope.specs.declared.Judged.the-variants as Judged
 use Rattle.reply.specs.Decode.{decodeOf, decoded}
+use Rattle.reply.specs.Nearness.{RecordsNear}
 use Rattle.reply.specs.declared.Decoded.{Decoded}
 use Rattle.reply.specs.Reply.{emptyReply}
 use Rattle.reply.specs.declared.CommandReply.{CommandReply}
@@ -123,6 +125,8 @@ pub record DemandTwo : Type 0 where
   pub check-value : checksumOf (0x31 ∷ 0x32 ∷ 0x33 ∷ 0x34 ∷ 0x35 ∷ 0x36 ∷ 0x37 ∷ 0x38 ∷ 0x39 ∷ []) ≡ 0x31C3
   -- "for raw r and scale s the reading is within |r|/s divided by 2^22 of r/s"
   pub rounding : (raw : ℤ) (scale : ℕ) → size raw ≤ 2 ^ 31 → 0 < scale → scale ≤ 2 ^ 24 → ReadingNear raw scale
+  -- and of whatever `decode` returns of a good frame: each scaled field of the record is as near to the number that the frame's bytes hold at the field's place
+  pub readings : (s : List ℕ) → Bytes s → (d : Decoded) → decoded d ≡ decodeOf s → (count : ℕ) → d .answer ≡ Judged.Good count → RecordsNear s (d .reply)
   -- Unicode's table 3-7
   pub text : (bytes : List ℕ) → (wellFormed bytes ≡ true) ↔ WellFormed bytes
   -- whatever `has_text` and `text` return of a name: it has a text exactly where the bytes before its first NUL are well-formed, and the text is those bytes

@@ -1,0 +1,17 @@
+-- The error bound of document 01, "Numbers", of the records that `decode` gives. Assumes nothing.
+use mathlib.Core.Path.{_≡_}
+use Prim.Native.Nat.{ℕ, _-_, _^_}
+use mathlib.Core.List.{List}
+use Rattle.packer.specs.Numbers.{beAt}
+use Rattle.fields.specs.Fields.{valuesTable, setupTable}
+use Rattle.records.specs.Nearness.{valuesFloats, setupFloats, FieldsNear}
+use Rattle.reply.specs.declared.Kind.the-variants as Kind
+use Rattle.reply.specs.declared.CommandReply.{CommandReply}
+
+-- A frame's payload begins at byte 2 with the id. The fields of GetValues follow at byte 3, all of them. In the other two the mask follows, in bytes 3 to 6,
+-- and the fields that it has begin at byte 7.
+pub record RecordsNear (s : List ℕ) (reply : CommandReply) : Type 0 where
+  pub get-values : reply .kind ≡ Kind.GetValues → FieldsNear valuesTable (2 ^ 22 - 1) s 3 (valuesFloats (reply .values))
+  pub get-values-selective : reply .kind ≡ Kind.GetValuesSelective → FieldsNear valuesTable (beAt s 3 4) s 7 (valuesFloats (reply .values))
+  pub get-values-setup-selective
+      : reply .kind ≡ Kind.GetValuesSetupSelective → FieldsNear setupTable (beAt s 3 4) s 7 (setupFloats (reply .«setup_values»))
