@@ -4,3 +4,4 @@ pub mod Rounding
 pub mod Reading
 pub mod Scales
 pub mod Samples
+pub mod Nearest

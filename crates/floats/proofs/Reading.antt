@@ -62,7 +62,7 @@ second (fin t m e) s S E M a P h v = (v .0, compose (m * up e) (down e) S E M a 
 
 -- ---- the second rounding is in the normal range, far below an overflow
 -- (omega takes no number of more than 38 digits, so the large powers stand outside)
-wider : (x y i j : ℕ) → i ≤ j → x ≤ y * 2 ^ i → x ≤ y * 2 ^ j
+pub wider : (x y i j : ℕ) → i ≤ j → x ≤ y * 2 ^ i → x ≤ y * 2 ^ j
 wider x y i j h k = le-trans k (mul-le-mul-left y (pow-mono h))
 
 normal : (S E M A : ℕ) → gap (M * 1) A * 2 ^ 24 ≤ A → E ≤ A → S * E ≤ 2 ^ 24 * E → 2 ^ 23 * (S * E) ≤ M * 2 ^ 149

@@ -19,7 +19,7 @@ use lib.Ieee.Scale.{normal-of-fraction}
 use Rattle.floats.specs.Near.{gap, Near}
 
 -- ---- an error bound holds of two numbers exactly where it holds of both times k
-gap-mul : (a b k : ℕ) → gap (a * k) (b * k) ≡ gap a b * k
+pub gap-mul : (a b k : ℕ) → gap (a * k) (b * k) ≡ gap a b * k
 gap-mul a b k =
     let x : k * (a - b) ≡ k * a - k * b = mul-sub k a b in
     let y : k * (b - a) ≡ k * b - k * a = mul-sub k b a in
@@ -32,12 +32,12 @@ pub within-cancel : (a b k p : ℕ) → 0 < k → gap (a * k) (b * k) * p ≤ b 
 within-cancel a b k p K h = le-of-mul-le-mul-right (le-trans (le-of-eq (sym (ap (λ (z : ℕ). z * p) (gap-mul a b k) ∙ mul-right-comm (gap a b) k p))) h) K
 
 -- ---- a fraction's nearest whole number is at most a half away
-abbrev Cmp : Ordering → ℕ → ℕ → Type 0
+abbrev pub Cmp : Ordering → ℕ → ℕ → Type 0
 Cmp Ordering·lt a b = a < b
 Cmp Ordering·eq a b = a ≡ b
 Cmp Ordering·gt a b = b < a
 
-cmp : (a b : ℕ) → Cmp (compare a b) a b
+pub cmp : (a b : ℕ) → Cmp (compare a b) a b
 cmp a b = go (compare a b) (leb→le a b) (nleb→lt a b) (eqb→eq a b) (λ (e : a ≡ b). subst (λ (x : ℕ). T (eqb a x)) e (eqb-refl a))
   where
     go : (o : Ordering) → (T (isLe o) → a ≤ b) → (T (not (isLe o)) → b < a) → (T (isEq o) → a ≡ b) → (a ≡ b → T (isEq o)) → Cmp o a b
@@ -55,7 +55,7 @@ half-away Ordering·lt q u r n l e h = omega arith
 half-away Ordering·eq q u r n l e h = up-to-one (q % 2) q u r n (omega arith) e h
 half-away Ordering·gt q u r n l e h = let x : suc q * u ≡ q * u + u = suc-mul q u in omega arith
 
-closest-err : (n u : ℕ) → 0 < u → gap (closest n u * u) n * 2 ≤ u
+pub closest-err : (n u : ℕ) → 0 < u → gap (closest n u * u) n * 2 ≤ u
 closest-err n u U = half-away (compare (n % u * 2) u) (n / u) u (n % u) n (mod-lt n U) (div-add-mod' n u) (cmp (n % u * 2) u)
 
 -- ---- a float that is exactly w / l is near what w / l is near
@@ -85,7 +85,7 @@ prec-pos binary32 = omega arith
 prec-pos binary64 = omega arith
 
 -- den * 2 ^ k is small beside n, by as many digits as the format keeps
-unit-small : (f : Format) (num den : ℕ) → 0 < den → 2 ^ (prec f - 1) * den ≤ num * 2 ^ low f
+pub unit-small : (f : Format) (num den : ℕ) → 0 < den → 2 ^ (prec f - 1) * den ≤ num * 2 ^ low f
     → 2 ^ (prec f - 1) * (den * 2 ^ drop (prec f) (num * 2 ^ low f) den) ≤ num * 2 ^ low f
 unit-small f num den D N =
     let n = num * 2 ^ low f in
@@ -106,26 +106,41 @@ pub times-le : (a b : ℕ) → 0 < a → b ≤ a * b
 times-le a b h = le-trans (le-mul-of-pos-right b h) (le-of-eq (mul-comm b a))
 
 -- num / den is in the normal range and below 2 ^ emax. In units of the format's smallest value it is n / den; what is kept of it is q * 2 ^ k.
-pub round-near : (f : Format) (s : Bool) (num den : ℕ) → 0 < den → 2 ^ (prec f - 1) * den ≤ num * 2 ^ low f → num < den * 2 ^ emax f
-    → Near (round f s num den) s num den (2 ^ prec f)
-round-near f s num den D N B =
-    let l = 2 ^ low f in
-    let n = num * l in
-    let k = drop (prec f) n den in
-    let u = den * 2 ^ k in
-    let q = kept (prec f) n den in
-    let small : 2 ^ (prec f - 1) * u ≤ n = unit-small f num den D N in
-    let err : gap (q * u) n * 2 ≤ u = closest-err n u (mul-pos D (pow-pos k)) in
-    let e : q * u ≡ q * 2 ^ k * den = ap (λ (z : ℕ). q * z) (mul-comm den (2 ^ k)) ∙ sym (mul-assoc q (2 ^ k) den) in
-    let near : gap (q * u) n * 2 ^ prec f ≤ n = subst (λ (z : ℕ). gap (q * u) n * z ≤ n) (twice f) (part (gap (q * u) n) u (2 ^ (prec f - 1)) n err small) in
-    let under : q * 2 ^ k < 2 ^ (low f + suc (emax f)) = lt-of-mul-lt-mul-right den
-    (lt-of-le-of-lt (le-trans (le-of-eq (sym e)) (doubled (q * u) n u err (le-trans (times-le (2 ^ (prec f - 1)) u (pow-pos (prec f - 1))) small)))
-    (lt-of-lt-of-le (mul-lt-mul-of-pos-right (mul-lt-mul-of-pos-right B (pow-pos (low f))) (pow-pos 1))
-    (le-of-eq (whole f den)))) in
-    near-of-value (round f s num den) s (q * 2 ^ k) l num den (2 ^ prec f) (pow-pos (low f))
-    (subst (λ (z : Float). HasValue z s (q * 2 ^ k) l) (sym (round-is f s num den)) (units-val f s q k under))
-    (subst (λ (z : ℕ). gap z n * 2 ^ prec f ≤ n) e near)
-  where
-    whole : (f : Format) (den : ℕ) → den * 2 ^ emax f * 2 ^ low f * 2 ^ 1 ≡ 2 ^ (low f + suc (emax f)) * den
-    whole binary32 den = mul-assoc (den * 2 ^ 127) (2 ^ 149) 2 ∙ mul-assoc den (2 ^ 127) (2 ^ 149 * 2) ∙ mul-comm den (2 ^ 277)
-    whole binary64 den = mul-assoc (den * 2 ^ 1023) (2 ^ 1074) 2 ∙ mul-assoc den (2 ^ 1023) (2 ^ 1074 * 2) ∙ mul-comm den (2 ^ 2098)
+module _ (f : Format) (s : Bool) (num den : ℕ) (D : 0 < den) (N : 2 ^ (prec f - 1) * den ≤ num * 2 ^ low f) (B : num < den * 2 ^ emax f) where
+  abbrev l : ℕ
+  l = 2 ^ low f
+
+  abbrev n : ℕ
+  n = num * l
+
+  abbrev k : ℕ
+  k = drop (prec f) n den
+
+  abbrev u : ℕ
+  u = den * 2 ^ k
+
+  abbrev q : ℕ
+  q = kept (prec f) n den
+
+  err : gap (q * u) n * 2 ≤ u
+  err = closest-err n u (mul-pos D (pow-pos k))
+
+  same : q * u ≡ q * 2 ^ k * den
+  same = ap (λ (z : ℕ). q * z) (mul-comm den (2 ^ k)) ∙ sym (mul-assoc q (2 ^ k) den)
+
+  whole : (f : Format) → den * 2 ^ emax f * 2 ^ low f * 2 ^ 1 ≡ 2 ^ (low f + suc (emax f)) * den
+  whole binary32 = mul-assoc (den * 2 ^ 127) (2 ^ 149) 2 ∙ mul-assoc den (2 ^ 127) (2 ^ 149 * 2) ∙ mul-comm den (2 ^ 277)
+  whole binary64 = mul-assoc (den * 2 ^ 1023) (2 ^ 1074) 2 ∙ mul-assoc den (2 ^ 1023) (2 ^ 1074 * 2) ∙ mul-comm den (2 ^ 2098)
+
+  pub round-value : HasValue (round f s num den) s (q * 2 ^ k) l
+  round-value =
+      let under : q * 2 ^ k < 2 ^ (low f + suc (emax f)) = lt-of-mul-lt-mul-right den
+      (lt-of-le-of-lt (le-trans (le-of-eq (sym same)) (doubled (q * u) n u err (le-trans (times-le (2 ^ (prec f - 1)) u (pow-pos (prec f - 1))) (unit-small f num den D N))))
+      (lt-of-lt-of-le (mul-lt-mul-of-pos-right (mul-lt-mul-of-pos-right B (pow-pos (low f))) (pow-pos 1))
+      (le-of-eq (whole f)))) in
+      subst (λ (z : Float). HasValue z s (q * 2 ^ k) l) (sym (round-is f s num den)) (units-val f s q k under)
+
+  pub round-near : Near (round f s num den) s num den (2 ^ prec f)
+  round-near =
+      let near : gap (q * u) n * 2 ^ prec f ≤ n = subst (λ (z : ℕ). gap (q * u) n * z ≤ n) (twice f) (part (gap (q * u) n) u (2 ^ (prec f - 1)) n err (unit-small f num den D N)) in
+      near-of-value (round f s num den) s (q * 2 ^ k) l num den (2 ^ prec f) (pow-pos (low f)) round-value (subst (λ (z : ℕ). gap z n * 2 ^ prec f ≤ n) same near)

@@ -1,16 +1,16 @@
 -- A name has a text exactly where its first NUL follows well-formed bytes, and these are the text. Assumes nothing.
-use mathlib.Core.Path.{_≡_, refl, sym, ap, _∙_}
+use mathlib.Core.Path.{_≡_, refl, sym, _∙_}
 use mathlib.Core.Bool.{Bool, true, false, cond, false≢true}
 use mathlib.Core.List.{List, [], _∷_}
-use Prim.Native.Nat.{ℕ, zero, suc, _+_, _-_, _≤_, _<_}
+use Prim.Native.Nat.{ℕ, zero, suc, _+_, _-_, _<_}
 use native.Mathlib.Omega.{arith}
 use lib.Dec.{eqb}
 use lib.ListN.{length, getD, take}
 use borrow.Author.Tests.{eqb-true, eqb-false, eq-eqb, ne-eqb}
-use Rattle.refusals.specs.Refusals.{Refusal, Answer, given, refused}
+use Rattle.refusals.specs.Refusals.{Answer, given, refused}
 use Rattle.refusals.proofs.Different.{none}
 use Rattle.names.specs.Names.{nulWithin}
-use Rattle.text.specs.Utf8.{wellFormed, WellFormed}
+use Rattle.text.specs.Utf8.{wellFormed}
 use Rattle.text.specs.Text.{firstNul, partBefore, hasTextBefore, hasText, textOf, FirstNulAt, TextEndsAt, TextOfName}
 use Rattle.text.proofs.Rule.{well-formed-iff}
 

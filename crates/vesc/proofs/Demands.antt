@@ -13,6 +13,7 @@ use Rattle.refusals.proofs.Different.{none}
 use Rattle.checksum.specs.Xmodem.{checksumOf}
 use Rattle.checksum.proofs.Remainder.{register-is-remainder}
 use Rattle.checksum.proofs.CheckValue.{check-value}
+use Rattle.floats.proofs.Nearest.{nearest-even}
 use Rattle.floats.proofs.Reading.{reading-near}
 use Rattle.text.proofs.Rule.{well-formed-iff}
 use Rattle.text.proofs.Ends.{text-of-name}
@@ -208,6 +209,7 @@ demand-two =
     record {
       checksum = register-is-remainder;
       check-value = check-value;
+      nearest = nearest-even;
       rounding = reading-near;
       readings = decoded-near;
       text = well-formed-iff;

@@ -6,12 +6,14 @@ use mathlib.Core.Logic.{_↔_}
 use mathlib.Core.List.{List, [], _∷_, _++_}
 use Prim.Native.Nat.{ℕ, _+_, _-_, _^_, _≤_, _<_}
 use lib.IntN.{ℤ}
+use lib.Ieee.{binary32, ofInt}
 use lib.ListN.{length, getD, take, drop}
 use Rattle.refusals.specs.Refusals.{Answer, given, refused, incompleteData, invalidFrame, unknownPacket, checksumMismatch, bufferTooSmall, payloadTooLong}
 use Rattle.refusals.specs.declared.EncodeError.{EncodeError}
 use Rattle.refusals.specs.declared.DecodeError.{DecodeError}
 use Rattle.checksum.specs.Xmodem.{checksumOf, registerOf}
 use Rattle.floats.specs.Near.{ReadingNear, size}
+use Rattle.floats.specs.Nearest.{NearestEven}
 use Rattle.text.specs.Utf8.{wellFormed, WellFormed}
 use Rattle.text.specs.Text.{hasText, textOf, TextOfName}
 use Rattle.packer.specs.Numbers.{beAt}
@@ -118,11 +120,13 @@ pub record DemandOne : Type 0 where
 
 -- "2. Within document 01's domain, bytes, readings and refusals equal the Rust's. Checksum, float rounding and name text are proved against CRC-16/XMODEM, IEEE 754 and Unicode."
 -- Bytes, readings and refusals equal the definitions that the contracts cite (docs/PROMISES.md); that the Rust's are the same is run, not proved. The sum is the remainder of long division by
--- definition; a whole number becomes the nearest binary32 by `lib.Ieee`'s definition.
+-- definition.
 pub record DemandTwo : Type 0 where
   -- the catalogue's register gives the same sum, and the catalogue's check value is met
   pub checksum : (message : List ℕ) → registerOf message ≡ checksumOf message
   pub check-value : checksumOf (0x31 ∷ 0x32 ∷ 0x33 ∷ 0x34 ∷ 0x35 ∷ 0x36 ∷ 0x37 ∷ 0x38 ∷ 0x39 ∷ []) ≡ 0x31C3
+  -- no binary32 is nearer to a whole number than the one that it becomes before the division, and at a tie it is the even one
+  pub nearest : (raw : ℤ) → size raw ≤ 2 ^ 31 → NearestEven raw (ofInt binary32 raw)
   -- "for raw r and scale s the reading is within |r|/s divided by 2^22 of r/s"
   pub rounding : (raw : ℤ) (scale : ℕ) → size raw ≤ 2 ^ 31 → 0 < scale → scale ≤ 2 ^ 24 → ReadingNear raw scale
   -- and of whatever `decode` returns of a good frame: each scaled field of the record is as near to the number that the frame's bytes hold at the field's place
