@@ -1,5 +1,6 @@
--- The old loss, and why demand 3 speaks of nonempty pieces. Document 01, "Easy ways to be wrong": "Treating an empty piece as harmless in `feed`"; "The stream": `feed` clears
--- "on an empty piece when the tail is full, even if most bytes were read". Assumes nothing.
+-- The old loss: why demand 3 speaks of nonempty pieces. Document 01, "Easy ways to be wrong": "Treating an empty piece
+-- as harmless in `feed`"; "The stream": `feed` clears "on an empty piece when the tail is full, even if most bytes were
+-- read". Assumes nothing.
 use mathlib.Core.Path.{_≡_}
 use mathlib.Core.List.{List, [], _∷_, _++_}
 use Prim.Native.Nat.{ℕ}

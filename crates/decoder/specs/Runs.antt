@@ -1,4 +1,4 @@
--- Runs of the decoder, as its calls' contracts have it: whatever meets a contract may be handed back. Crate `line` defines a run. Assumes nothing.
+-- Runs of the decoder: each call may return whatever its contract allows. Crate `line` defines a run. Assumes nothing.
 use mathlib.Core.Bool.{true, false}
 use mathlib.Core.List.{List}
 use Prim.Native.Nat.{ℕ, _<_}
@@ -28,12 +28,13 @@ FeedTakes d piece n e = FeedIs d piece (record { count = n; decoder = e })
 abbrev pub calls : runs.Calls CommandReply
 calls = callsBy (λ piece. 0 < length piece) FeedTakes
 
--- "Start the streaming decoder fresh. Hand it nonempty pieces, after each ask until it has no reply, and offer again what it did not take.": the run of a cutting, up to some `next`
--- that gave nothing, with the pieces still ahead, what is taken so far, the replies so far, and the decoder then
+-- "Start the streaming decoder fresh. Hand it nonempty pieces, after each ask until it has no reply, and offer again
+-- what it did not take.": the run of a cutting, up to some `next` that gave nothing, with the pieces still ahead, the
+-- bytes taken so far, the replies so far, and the decoder then
 abbrev pub Run : (pieces ahead : List (List ℕ)) (taken : List ℕ) (replies : List CommandReply) → Decoder → Type 0
 Run = runs.Run calls
 
--- offering these pieces to the decoder, and asking, comes to an end whatever the calls answer
+-- offering these pieces to the decoder, and asking, comes to an end, whatever the calls return
 abbrev pub Ends : (ahead : List (List ℕ)) → Decoder → Type 0
 Ends = runs.Ends calls
 

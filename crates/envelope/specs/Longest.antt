@@ -1,5 +1,6 @@
--- The longest frames. Document 01, "Reply fields": "Longest frames: FwVersion 110, FwInfo 103, selective 83, GetValues and setup 79, stats 54. So `decode` of 110 bytes or more never answers 1."
--- What `judge` answers of a slice is what `decode` answers. Assumes nothing.
+-- The longest frames. Document 01, "Reply fields": "Longest frames: FwVersion 110, FwInfo 103, selective 83, GetValues
+-- and setup 79, stats 54. So `decode` of 110 bytes or more never answers 1." `judgeOf` is the answer of `decode` without
+-- the reply. Assumes nothing.
 use mathlib.Core.Path.{_≡_}
 use mathlib.Core.List.{List}
 use Prim.Native.Nat.{ℕ, _≤_}

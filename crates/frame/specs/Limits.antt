@@ -1,5 +1,6 @@
--- How many hops a command may have. Document 01, "Commands": "127 hops before Alive give 255 bytes and pass; 125 before SetRpm pass; 126 before SetRpm are PayloadTooLong."
--- Whatever `encode` answers: r, with `after` in the buffer. Assumes nothing.
+-- How many hops a command may have. Document 01, "Commands": "127 hops before Alive give 255 bytes and pass; 125 before
+-- SetRpm pass; 126 before SetRpm are PayloadTooLong." `encode` returned r, and `after` is what the buffer then holds.
+-- Assumes nothing.
 use mathlib.Core.Path.{_≡_}
 use mathlib.Core.List.{List}
 use Prim.Native.Nat.{ℕ, _≤_}

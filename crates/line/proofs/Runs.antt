@@ -4,7 +4,6 @@ use mathlib.Core.Path.{_≡_, refl, sym, ap, _∙_, subst}
 use mathlib.Core.List.{List, [], _∷_, _++_, append-assoc, append-nil}
 use Prim.Native.Nat.{ℕ, zero, suc, _+_, _<_, _≤_}
 use native.Mathlib.Omega.{arith}
-use native.Mathlib.Nat.{le-refl}
 use lib.ListN.{length, take, drop, length-append, length-drop, take-append-drop}
 use Rattle.reading.specs.Reading.{takes, notYet, Judge, Steady, Bounded, reading, repliesOf, joined}
 use Rattle.reading.specs.Lateness.{TakenIn, NoneOver}

@@ -1,6 +1,6 @@
--- Runs: a fresh decoder is handed a stream in pieces, asked after each until it has no reply, and offered again what it did not take. Of each call only
--- its contract is known, so a run is whatever calls that meet their contracts can do one after the other. Over any decoder: which pieces may be offered, and what
--- `feed` and `next` do, are its own. Assumes nothing.
+-- Runs: a fresh decoder is handed a stream in pieces, asked after each until it has no reply, and offered again what it
+-- did not take. Of each call only the contract is known: a run is whatever calls that meet their contracts can do one
+-- after the other. Over any decoder: `Calls` says which pieces may be offered and what `feed` and `next` do. Assumes nothing.
 use mathlib.Core.List.{List, [], _∷_, _++_}
 use mathlib.Core.Path.{_≡_}
 use Prim.Native.Nat.{ℕ, _<_}
@@ -37,14 +37,14 @@ module _ {R : Type 0} (calls : Calls R) where
     ends : {s t : calls .State} → calls .GivesNothing s t → Asked s [] t
     gives : {s t u : calls .State} {reply : R} {replies : List R} → calls .Gives s reply t → Asked t replies u → Asked s (reply ∷ replies) u
 
-  -- The run of a cutting, `pieces`, up to some `next` that gave nothing: the pieces that are still ahead, the first of them perhaps in part; the bytes taken so far; the replies
-  -- so far; and the decoder then
+  -- The run of a cutting, `pieces`, up to some `next` that gave nothing: the pieces still ahead, the first of them
+  -- perhaps in part; the bytes taken so far; the replies so far; and the decoder then
   pub data Run (pieces : List (List ℕ)) : (ahead : List (List ℕ)) (taken : List ℕ) (replies : List R) → calls .State → Type 0 where
     starts : {s : calls .State} → calls .Fresh s → Run pieces pieces [] [] s
     offers : {ahead : List (List ℕ)} {piece taken : List ℕ} {replies new : List R} {s t u : calls .State} {n : ℕ}
         → Run pieces (piece ∷ ahead) taken replies s → calls .Piece piece → calls .Feeds s piece n t → Asked t new u
         → Run pieces (again (drop n piece) ahead) (taken ++ take n piece) (replies ++ new) u
-    -- What is ahead may be cut anew: what was not taken may be offered with bytes that follow it, or a part of it alone
+    -- what is ahead may be cut anew: what was not taken may be offered with bytes that follow it, or a part of it alone
     recuts : {ahead : List (List ℕ)} {taken : List ℕ} {replies : List R} {s : calls .State} (other : List (List ℕ))
         → Run pieces ahead taken replies s → joined other ≡ joined ahead → Run pieces other taken replies s
 
@@ -53,11 +53,12 @@ module _ {R : Type 0} (calls : Calls R) where
     a-reply : {t : calls .State} {reply : R} → calls .Gives s reply t → Answers s
     no-reply : {t : calls .State} → calls .GivesNothing s t → Answers s
 
-  -- `next` has an answer, and so on after every reply that it may give, to an end
+  -- `next` returns something, and after each reply that it may give the same holds, to an end
   pub data AskingEnds : calls .State → Type 0 where
     asking : {s : calls .State} → Answers s → ((reply : R) (t : calls .State) → calls .Gives s reply t → AskingEnds t) → AskingEnds s
 
-  -- Offering the first piece has an answer, asking after it ends, and so on with what is then ahead, whatever the calls answer, until all is taken
+  -- `feed` of the first piece returns something; whatever it returns, asking then ends; and whatever the replies are, the
+  -- same holds of what is then ahead, until nothing is
   pub data Ends : (ahead : List (List ℕ)) → calls .State → Type 0 where
     all-taken : {s : calls .State} → Ends [] s
     offering : {ahead : List (List ℕ)} {piece : List ℕ} {s : calls .State}
@@ -73,8 +74,8 @@ module _ {R : Type 0} (calls : Calls R) where
     by-reply : {s t : calls .State} (reply : R) → Reached s → calls .Gives s reply t → Reached t
     by-nothing : {s t : calls .State} → Reached s → calls .GivesNothing s t → Reached t
 
--- the reply of the frame of n bytes at p is among the replies, at its place in the reading of the uncut stream: behind those of the frames that the
--- reading gives before it
+-- the reply of the frame of n bytes at p is among the replies, at its place in the reading of the uncut stream: behind
+-- those of the frames that the reading gives before it
 pub record GivenSoFar {R : Type 0} (p n : ℕ) (reply : R) (uncut : List (Given R)) (replies : List R) : Type 0 where
   pub frame : GivenAt p n reply uncut
   pub later : List R

@@ -5,9 +5,18 @@ use Prim.Native.Nat.{ℕ, _+_, _-_, _≤_}
 use native.Mathlib.Omega.{arith}
 use lib.ListN.{length, drop, length-drop}
 use lib.Seq.{drop-append-le}
-use Rattle.reading.specs.Reading.{takes, notYet, movesOn, Judge, Given, Reading, Steady, gives, behind, readingFrom, reading, unreadPlace}
+use Rattle.reading.specs.Reading.{takes, notYet, movesOn, Judge, Given, Reading, Steady, gives, readingFrom, reading}
 use Rattle.reading.proofs.Turns.{by-reading, idle, at-good-frame, at-noise, good-told, noise-told, noise-some}
 use Rattle.reading.proofs.Rest.{rest-length}
+
+module _ {R : Type 0} where
+  -- what was given first, and then what o gives
+  abbrev behind : List (Given R) → Reading R → Reading R
+  behind first o = record { given = first ++ o .given; rest = o .rest }
+
+  -- where the first unread byte stands, after the reading o of a list l that starts at `place`
+  abbrev pub unreadPlace : ℕ → List ℕ → Reading R → ℕ
+  unreadPlace place l o = place + (length l - length (o .rest))
 
 module _ {R : Type 0} (judge : Judge R) where
   -- the reading o of a list l that starts at `place` goes on when more bytes come: they are appended to what o left

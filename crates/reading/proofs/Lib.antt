@@ -2,7 +2,6 @@ pub mod Turns
 pub mod Rest
 pub mod Frames
 pub mod Joined
-pub mod Pieces
 pub mod Search
 pub mod Searches
 pub mod Lateness

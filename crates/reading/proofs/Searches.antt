@@ -5,12 +5,12 @@ use Prim.Native.Nat.{ℕ, zero, suc, _+_, _≤_}
 use native.Mathlib.Omega.{arith}
 use native.Mathlib.Nat.{le-refl, not-suc-le-zero}
 use lib.ListN.{length, length-append}
-use Rattle.reading.specs.Reading.{notYet, Judge, Reading, Steady, readingFrom, repliesOf, unreadPlace}
+use Rattle.reading.specs.Reading.{notYet, Judge, Reading, Steady, readingFrom, repliesOf}
 use Rattle.reading.specs.Searching.{Search, found, nothing, sizeFound, search}
 use Rattle.reading.proofs.Turns.{idle}
 use Rattle.reading.proofs.Rest.{rest-not-yet}
 use Rattle.reading.proofs.Frames.{sizesOf, replies-append, sizes-append}
-use Rattle.reading.proofs.Joined.{reading-joined}
+use Rattle.reading.proofs.Joined.{reading-joined, unreadPlace}
 use Rattle.reading.proofs.Search.{movedOver, restOf, readOn, search-account, found-fewer, search-reading}
 
 -- what searching again and again comes to, until nothing is found

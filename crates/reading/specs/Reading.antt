@@ -3,7 +3,7 @@
 -- does, and R is what it replies. Assumes nothing.
 use mathlib.Core.Path.{_≡_}
 use mathlib.Core.List.{List, [], _∷_, _++_, map}
-use Prim.Native.Nat.{ℕ, zero, suc, _+_, _-_, _<_, _≤_}
+use Prim.Native.Nat.{ℕ, zero, suc, _+_, _<_, _≤_}
 use lib.ListN.{length, drop}
 
 -- what a judge says of the bytes from a position on
@@ -55,14 +55,6 @@ module _ {R : Type 0} where
   abbrev pub gives : Given R → Reading R → Reading R
   gives g o = record { given = g ∷ o .given; rest = o .rest }
 
-  -- what was given first, and then what o gives
-  abbrev pub behind : List (Given R) → Reading R → Reading R
-  behind first o = record { given = first ++ o .given; rest = o .rest }
-
-  -- where the first unread byte stands, after the reading o of a list l that starts at `place`
-  abbrev pub unreadPlace : ℕ → List ℕ → Reading R → ℕ
-  unreadPlace place l o = place + (length l - length (o .rest))
-
   -- "at a position, a good frame is given and passed whole; where `decode` answers 1 the reading stops; otherwise it moves on one
   -- byte": l are the bytes from the position on, `on n` is the reading n bytes further
   abbrev pub readAt : Verdict R → ℕ → List ℕ → (ℕ → Reading R) → Reading R
@@ -84,17 +76,7 @@ module _ {R : Type 0} where
     abbrev pub reading : List ℕ → Reading R
     reading l = readingFrom 0 l
 
-    -- pieces read one after the other, each appended to what the reading before it left
-    unfoldable pub piecesFrom : ℕ → List ℕ → List (List ℕ) → Reading R
-    piecesFrom place left [] = stops left
-    piecesFrom place left (p ∷ ps) =
-        let o = readingFrom place (left ++ p) in
-        behind (o .given) (piecesFrom (unreadPlace place (left ++ p) o) (o .rest) ps)
-
-    unfoldable pub inPieces : List (List ℕ) → Reading R
-    inPieces pieces = piecesFrom 0 [] pieces
-
--- the uncut stream
+-- the uncut stream: its pieces, joined
 abbrev pub joined : List (List ℕ) → List ℕ
 joined [] = []
 joined (p ∷ ps) = p ++ joined ps

@@ -1,5 +1,5 @@
--- What it is that a promise leaves one answer. Document 01, "How tight the promises are": "For each, uniqueness of the answer is proved". Each crate states it of its own
--- calls, in a record of the same name. Assumes nothing.
+-- A promise leaves one answer. Document 01, "How tight the promises are": "For each, uniqueness of the answer is
+-- proved". Each crate states it of its own calls, in a record of this name. Assumes nothing.
 use mathlib.Core.Path.{_≡_}
 use Rattle.refusals.specs.Refusals.{decodeRefusal, encodeRefusal}
 

@@ -1,5 +1,5 @@
 -- What a step and a method answer is the only answer, and what the Unpacker then is the only one. Assumes nothing.
-use mathlib.Core.Path.{_≡_, sym, ap, _∙_}
+use mathlib.Core.Path.{sym, ap, _∙_}
 use mathlib.Core.List.{List}
 use Prim.Native.Nat.{ℕ}
 use Rattle.refusals.specs.OneAnswer.{ToldApart, OnlyBoth}

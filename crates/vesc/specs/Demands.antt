@@ -1,5 +1,7 @@
--- The three demands of the person we build for, each with its words, as records whose fields are the claims. They are stated of every answer that meets the contracts of
--- the public functions, and of the definitions that these contracts cite; proofs/Demands.antt has one of each. docs/FORMAT.md has document 01's rules in our words. Assumes nothing.
+-- The three demands of the person we build for, each with its words, as a record whose fields are the claims.
+-- They are claims about whatever meets the contracts of the public functions, and about the definitions that
+-- these contracts cite. proofs/Demands.antt proves each record. docs/FORMAT.md has document 01's rules in our
+-- words, and the glossary; README.md has the notation. Assumes nothing.
 use mathlib.Core.Path.{_≡_}
 use mathlib.Core.Bool.{Bool, true}
 use mathlib.Core.Logic.{_↔_}
@@ -40,11 +42,12 @@ use Rattle.decoder.specs.Frames.{frames}
 use Rattle.decoder.specs.State.{lineOf, figuresOf, FeedIs}
 use Rattle.decoder.specs.Runs.{Run, Ends, Reached}
 
--- "1. No call traps, hangs or relies on its caller. IncompleteData, InvalidFrame, UnknownPacket, ChecksumMismatch, BufferTooSmall and PayloadTooLong come exactly when
--- document 01 says. A refused encode writes nothing."
--- That no call traps, hangs or relies on its caller is what the check of each crate proves: no public function has a `requires`.
+-- "1. No call traps, hangs or relies on its caller. IncompleteData, InvalidFrame, UnknownPacket, ChecksumMismatch,
+-- BufferTooSmall and PayloadTooLong come exactly when document 01 says. A refused encode writes nothing."
+-- No call traps, hangs or relies on its caller: the check of each crate proves this, because no public function has
+-- a `requires`.
 
--- whatever `encode` answers, for every command, hops and buffer: r, with `after` in the buffer
+-- `encode` of a command behind hops returned r, and `after` is what the buffer then holds
 pub record EncodeRefuses (command : Command) (hops buffer : List ℕ) (r : Encoded) (after : List ℕ) : Type 0 where
   pub too-long : (encoded r ≡ refused payloadTooLong) ↔ (255 < length (payloadOf command hops))
   pub too-small : (encoded r ≡ refused bufferTooSmall) ↔ ((length (payloadOf command hops) ≤ 255) × (length buffer < length (payloadOf command hops) + 5))
@@ -74,7 +77,8 @@ abbrev pub NoneOf : List ℕ → ℕ → Type 0
 NoneOf [] id = Unit
 NoneOf (known ∷ others) id = (id ≡ known → ⊥) × NoneOf others id
 
--- the ways that `decode` of a slice s can go, in document 01's order; `getD s 1 0`, the length byte, is document 01's n, and the fields are read from byte 2 on
+-- The ways that `decode` of a slice s can go, in document 01's order. `getD s 1 0`, the length byte, is document 01's n.
+-- The fields are read from byte 2 on.
 pub data Way (s : List ℕ) : Type 0 where
   no-start : length s ≤ 0 → Way s
   start-wrong : 0 < length s → (getD s 0 0 ≡ 2 → ⊥) → Way s
@@ -107,7 +111,8 @@ answerOf (end-wrong f there differs) = refused invalidFrame
 answerOf {s} (sum-wrong f there end differs) = refused (checksumMismatch (carried s) (summed s))
 answerOf {s} (good f there end same) = given (getD s 1 0 + 5)
 
--- Whatever `decode` answers of a slice: d. The slice goes one of the ways, and is answered as that way says: so each refusal comes exactly where document 01 says.
+-- `decode` of a slice s returned d. The slice goes one of the ways, and d's answer is the one of each way that it goes:
+-- so each refusal comes exactly when document 01 says.
 pub record DecodeRefuses (s : List ℕ) (d : Decoded) : Type 0 where
   pub goes : Way s
   pub answer : (way : Way s) → judged (d .answer) ≡ answerOf way
@@ -118,55 +123,68 @@ pub record DemandOne : Type 0 where
   pub encode : (command : Command) (hops buffer : List ℕ) (r : Encoded) (after : List ℕ) → Encodes command hops buffer r after → EncodeRefuses command hops buffer r after
   pub decode : (s : List ℕ) (d : Decoded) → decoded d ≡ decodeOf s → DecodeRefuses s d
 
--- "2. Within document 01's domain, bytes, readings and refusals equal the Rust's. Checksum, float rounding and name text are proved against CRC-16/XMODEM, IEEE 754 and Unicode."
--- Bytes, readings and refusals equal the definitions that the contracts cite (docs/PROMISES.md); that the Rust's are the same is run, not proved. The sum is the remainder of long division by
--- definition.
+-- "2. Within document 01's domain, bytes, readings and refusals equal the Rust's. Checksum, float rounding and name
+-- text are proved against CRC-16/XMODEM, IEEE 754 and Unicode."
+-- Bytes, readings and refusals equal the definitions that the contracts cite (docs/PROMISES.md). That the Rust's are
+-- the same is tested, not proved (docs/DIFFERENCES.md). The checksum is the remainder of long division by definition.
 pub record DemandTwo : Type 0 where
   -- the catalogue's register gives the same sum, and the catalogue's check value is met
   pub checksum : (message : List ℕ) → registerOf message ≡ checksumOf message
   pub check-value : checksumOf (0x31 ∷ 0x32 ∷ 0x33 ∷ 0x34 ∷ 0x35 ∷ 0x36 ∷ 0x37 ∷ 0x38 ∷ 0x39 ∷ []) ≡ 0x31C3
-  -- no binary32 is nearer to a whole number than the one that it becomes before the division, and at a tie it is the even one
+  -- No binary32 is nearer to a whole number than the one that it becomes before the division, and at a tie it is
+  -- the even one
   pub nearest : (raw : ℤ) → size raw ≤ 2 ^ 31 → NearestEven raw (ofInt binary32 raw)
   -- "for raw r and scale s the reading is within |r|/s divided by 2^22 of r/s"
   pub rounding : (raw : ℤ) (scale : ℕ) → size raw ≤ 2 ^ 31 → 0 < scale → scale ≤ 2 ^ 24 → ReadingNear raw scale
-  -- and of whatever `decode` returns of a good frame: each scaled field of the record is as near to the number that the frame's bytes hold at the field's place
+  -- The same of a record: if `decode` returned d for a good frame, each scaled field of its record is that near to the
+  -- number that the frame's bytes hold at the field's place, over the scale
   pub readings : (s : List ℕ) → Bytes s → (d : Decoded) → decoded d ≡ decodeOf s → (count : ℕ) → d .answer ≡ Judged.Good count → RecordsNear s (d .reply)
   -- Unicode's table 3-7
   pub text : (bytes : List ℕ) → (wellFormed bytes ≡ true) ↔ WellFormed bytes
-  -- whatever `has_text` and `text` return of a name: it has a text exactly where the bytes before its first NUL are well-formed, and the text is those bytes
+  -- `has_text` and `text` of a name returned `has` and `part`: the name has a text exactly if it has a first NUL and the
+  -- bytes before it are well-formed, and the text is then those bytes
   pub name-text : (name : List ℕ) (has : Bool) (part : List ℕ) → has ≡ hasText name → part ≡ textOf name → TextOfName name has part
 
--- "3. Start the streaming decoder fresh. Hand it nonempty pieces, after each ask until it has no reply, and offer again what it did not take. Then for every stream and every such cutting the replies are those of one
--- left-to-right reading of the uncut stream, in order and no others. A good frame overlapped by no earlier frame of that reading is given, however damaged the bytes before it, once 109 bytes counted from its
--- first, or its own last byte if that is later, have been taken in and asked for."
--- A `Run` is that use of the decoder, in any cutting, up to any `next` that gave nothing, also in the middle of a piece: `ahead` are the pieces that are still to be offered, `taken` the bytes taken in
--- so far, then the replies so far, and d, the decoder then. It may be any that calls with the contracts of `new`, `feed` and `next` (`Holds fresh`, `FeedIs`, `NextIs`) can make.
--- `joined pieces` is the uncut stream; `reading` is defined from `decode` alone.
+-- "3. Start the streaming decoder fresh. Hand it nonempty pieces, after each ask until it has no reply, and offer again
+-- what it did not take. Then for every stream and every such cutting the replies are those of one left-to-right reading
+-- of the uncut stream, in order and no others. A good frame overlapped by no earlier frame of that reading is given,
+-- however damaged the bytes before it, once 109 bytes counted from its first, or its own last byte if that is later,
+-- have been taken in and asked for."
+-- `Run pieces ahead taken replies d` is that use of the decoder, up to some `next` that gave nothing, also one in the
+-- middle of a piece: `pieces` is the cutting, `ahead` are the pieces still to be offered, `taken` the bytes taken in so
+-- far, `replies` the replies so far, and d is the decoder then. Each call may return whatever its contract allows:
+-- `Holds fresh` for `new`, `FeedIs` for `feed`, `NextIs` for `next` (decoder/specs/State.antt). `joined pieces` is the
+-- uncut stream, and `reading` is defined from `decode` alone.
 pub record AsRead (pieces ahead : List (List ℕ)) (taken : List ℕ) (replies : List CommandReply) (d : Decoder) : Type 0 where
-  -- what is taken and what is ahead are the stream
+  -- the stream is what is taken and then what is ahead
   pub stream : joined pieces ≡ taken ++ joined ahead
-  -- the replies so far are those of the reading of what is taken, in order and no others; what that reading leaves is unread
+  -- the replies so far are those of the reading of what is taken, in order and no others
   pub in-order : replies ≡ repliesOf (reading frames taken .given)
+  -- what that reading leaves is unread
   pub unread : lineOf d .unread ≡ reading frames taken .rest
-  -- The frame, good by its own n bytes, stands at p of the stream. No earlier frame of the stream's reading reaches over p. Its own last byte is taken, and 109 bytes counted from its first are:
-  -- then its reply is among those given, at its place
+  -- At p of the stream stands a frame that is good by its own n bytes. No earlier frame of the stream's reading reaches
+  -- over p. Its last byte is taken, and so are 109 bytes counted from its first. Then its reply is among the replies, at
+  -- its place
   pub in-time : (p n : ℕ) (reply : CommandReply) → frames (take n (drop p (joined pieces))) ≡ takes n reply → NoneOver p (reading frames (joined pieces) .given)
       → p + n ≤ length taken → p + 109 ≤ length taken
       → GivenSoFar p n reply (reading frames (joined pieces) .given) replies
 
 pub record DemandThree : Type 0 where
   pub as-read : {pieces ahead : List (List ℕ)} {taken : List ℕ} {replies : List CommandReply} {d : Decoder} → Run pieces ahead taken replies d → AsRead pieces ahead taken replies d
-  -- nothing is ahead: "the replies are those of one left-to-right reading of the uncut stream"
+  -- Once nothing is ahead, "the replies are those of one left-to-right reading of the uncut stream"
   pub whole : {pieces : List (List ℕ)} {taken : List ℕ} {replies : List CommandReply} {d : Decoder} → Run pieces [] taken replies d
       → replies ≡ repliesOf (reading frames (joined pieces) .given)
-  -- Every cutting into nonempty pieces has such a run to its end. And from any point of any run on, whatever the calls answer, it comes to an end
+  -- Every cutting into nonempty pieces has a run that takes all of it
   pub exists : (pieces : List (List ℕ)) → Nonempty pieces → (replies : List CommandReply) × (d : Decoder) × Run pieces [] (joined pieces) replies d
+  -- From any point of any run on, every call has a result, and whatever the results are, all is taken in the end
   pub ends : {pieces ahead : List (List ℕ)} {taken : List ℕ} {replies : List CommandReply} {d : Decoder} → Run pieces ahead taken replies d → Nonempty ahead → Ends ahead d
-  -- because each offer takes a byte or more
+  -- because `feed` takes a byte or more of a nonempty piece
   pub takes-some : {pieces ahead : List (List ℕ)} {taken : List ℕ} {replies : List CommandReply} {d : Decoder} → Run pieces ahead taken replies d
       → (piece : List ℕ) (fed : Fed) → 0 < length piece → FeedIs d piece fed → 0 < fed .count
 
--- Document 01's line figures: "From a fresh state on, while fed is below 2^64 - 1, fed = handed + passed + held", as `figures` reports them after any calls whatever, empty pieces fed too
+-- Document 01's line figures: "From a fresh state on, while fed is below 2^64 - 1, fed = handed + passed + held".
+-- `Reached d`: d comes from a fresh decoder by any calls whatever, empty pieces fed too. `figures` of d returned
+-- `figures`
 pub record FiguresBalance : Type 0 where
   pub balance : {d : Decoder} → Reached d → (figures : Figures) → figures ≡ figuresOf (lineOf d) → figures .fed < 2 ^ 64 - 1
       → figures .fed ≡ figures .handed + figures .passed + figures .held

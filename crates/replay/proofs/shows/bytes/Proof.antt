@@ -2,8 +2,6 @@
 use mathlib.Core.Path.{_≡_, refl}
 use lib.ListN.{length}
 use Prim.Native.Nat.{_-_}
-use mathlib.Core.Path.{sym}
-use lib.Seq.{length-take-le}
 use borrow.Author.Needs.{needs}
 use Rattle.replay.proofs.shows.bytes.Statement.{statement}
 use Rattle.replay.proofs.shows.bytes.Tie as tie
