@@ -16,7 +16,7 @@ use Rattle.decoder.specs.declared.Fed.{Fed}
 use Rattle.decoder.specs.declared.Figures.{Figures}
 use Rattle.decoder.specs.Frames.{frames}
 use Rattle.decoder.specs.State.{lineOf, figuresOf, FeedIs}
-use Rattle.decoder.specs.Runs.{calls, Run, Ends, Reached}
+use Rattle.decoder.specs.Runs.{calls, Run, PlainRun, Ends, Reached}
 use Rattle.decoder.proofs.Judging.{frames-steady, frames-bounded}
 use Rattle.decoder.proofs.Runs.{unread, faithful, able, balancing}
 
@@ -44,7 +44,7 @@ pub whole-reading : {pieces : List (List ℕ)} {taken : List ℕ} {replies : Lis
     → replies ≡ repliesOf (reading frames (joined pieces) .given)
 whole-reading {taken = taken} run = run-replies run ∙ ap (λ (l : List ℕ). repliesOf (reading frames l .given)) (sym (any-decoder.run-front run ∙ append-nil taken))
 
-pub runs-whole : (pieces : List (List ℕ)) → Nonempty pieces → (replies : List CommandReply) × (d : Decoder) × Run pieces [] (joined pieces) replies d
+pub runs-whole : (pieces : List (List ℕ)) → Nonempty pieces → (replies : List CommandReply) × (d : Decoder) × PlainRun pieces [] (joined pieces) replies d
 runs-whole = any-decoder.runs-whole frames frames-steady calls unread faithful able
 
 pub balance : {d : Decoder} → Reached d → (figures : Figures) → figures ≡ figuresOf (lineOf d) → figures .fed < top

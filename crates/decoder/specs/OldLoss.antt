@@ -25,4 +25,4 @@ pub record OldLoss : Type 0 where
   -- the reading of the uncut stream gives the frame, at 509
   pub read : reading frames (joined oldPieces) .given ≡ record { place = 509; size = 6; reply = replyOf (129 ∷ []) } ∷ []
   -- a run of those pieces takes every byte, and gives no reply
-  pub lost : (d : Decoder) × runs.Run anyCalls oldPieces [] (joined oldPieces) [] d
+  pub lost : (d : Decoder) × runs.Run anyCalls ⊥ oldPieces [] (joined oldPieces) [] d

@@ -30,9 +30,13 @@ calls = callsBy (λ piece. 0 < length piece) FeedTakes
 
 -- "Start the streaming decoder fresh. Hand it nonempty pieces, after each ask until it has no reply, and offer again
 -- what it did not take.": the run of a cutting, up to some `next` that gave nothing, with the pieces still ahead, the
--- bytes taken so far, the replies so far, and the decoder then
+-- bytes taken so far, the replies so far, and the decoder then. The caller may cut anew what is ahead
 abbrev pub Run : (pieces ahead : List (List ℕ)) (taken : List ℕ) (replies : List CommandReply) → Decoder → Type 0
-Run = runs.Run calls
+Run = runs.Run calls Unit
+
+-- the same, and the caller never does: it offers each piece, again what was not taken of it, and nothing else
+abbrev pub PlainRun : (pieces ahead : List (List ℕ)) (taken : List ℕ) (replies : List CommandReply) → Decoder → Type 0
+PlainRun = runs.Run calls ⊥
 
 -- offering these pieces to the decoder, and asking, comes to an end, whatever the calls return
 abbrev pub Ends : (ahead : List (List ℕ)) → Decoder → Type 0

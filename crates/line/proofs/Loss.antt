@@ -70,13 +70,13 @@ module _ {R : Type 0} (judge : Judge R) (steady : Steady judge) (k noise : ℕ) 
     -- a run that gave nothing so far
     record Quiet (ahead : List (List ℕ)) (taken unread : List ℕ) (wpos : ℕ) : Type 0 where
       state : calls .State
-      run : Run calls (cutPieces k noise front back) ahead taken [] state
+      run : Run calls ⊥ (cutPieces k noise front back) ahead taken [] state
       holds : lineOf state .unread ≡ unread
       at : lineOf state .wpos ≡ wpos
 
     same-run : {s : calls .State} {pieces ahead ahead' : List (List ℕ)} {taken taken' : List ℕ} {replies replies' : List R} → ahead ≡ ahead' → taken ≡ taken' → replies ≡ replies'
-        → Run calls pieces ahead taken replies s → Run calls pieces ahead' taken' replies' s
-    same-run {s} {pieces} a t r run = subst (λ (T : Type 0). T) (λ i. Run calls pieces (a i) (t i) (r i) s) run
+        → Run calls ⊥ pieces ahead taken replies s → Run calls ⊥ pieces ahead' taken' replies' s
+    same-run {s} {pieces} a t r run = subst (λ (T : Type 0). T) (λ i. Run calls ⊥ pieces (a i) (t i) (r i) s) run
 
     -- a piece that is taken at once, and gives nothing
     once : {ahead : List (List ℕ)} {taken unread : List ℕ} {wpos : ℕ} (piece l rest : List ℕ) (w : ℕ) (q : Quiet (piece ∷ ahead) taken unread wpos)
@@ -100,7 +100,7 @@ module _ {R : Type 0} (judge : Judge R) (steady : Steady judge) (k noise : ℕ) 
         }
 
     -- A run of the pieces takes the whole stream, and gives nothing at all.
-    pub lost : (s : calls .State) × Run calls (cutPieces k noise front back) [] (joined (cutPieces k noise front back)) [] s
+    pub lost : (s : calls .State) × Run calls ⊥ (cutPieces k noise front back) [] (joined (cutPieces k noise front back)) [] s
     lost =
         let first = replicate k noise ++ front in
         let size : length first ≡ 512 = length-append (replicate k noise) front ∙ ap (λ (n : ℕ). n + length front) (length-replicate k noise) ∙ cut .full in

@@ -24,7 +24,7 @@ nonempty-again [] ahead some = some
 nonempty-again (byte ∷ left) ahead some = (omega arith, some)
 
 -- The stream is what was taken, and then what is ahead.
-pub run-front : {R : Type 0} {calls : Calls R} {pieces ahead : List (List ℕ)} {taken : List ℕ} {replies : List R} {s : calls .State} → Run calls pieces ahead taken replies s
+pub run-front : {R : Type 0} {calls : Calls R} {Recut : Type 0} {pieces ahead : List (List ℕ)} {taken : List ℕ} {replies : List R} {s : calls .State} → Run calls Recut pieces ahead taken replies s
     → joined pieces ≡ taken ++ joined ahead
 run-front (starts first) = refl
 run-front (offers {ahead} {piece} {taken} {n = n} run may feeds asked) =
@@ -32,7 +32,7 @@ run-front (offers {ahead} {piece} {taken} {n = n} run may feeds asked) =
     let split : piece ++ rest ≡ take n piece ++ (drop n piece ++ rest) = ap (λ (l : List ℕ). l ++ rest) (sym (take-append-drop n piece)) ∙ append-assoc (take n piece) (drop n piece) rest in
     run-front run ∙ ap (λ (l : List ℕ). taken ++ l) (split ∙ ap (λ (l : List ℕ). take n piece ++ l) (sym (joined-again (drop n piece) ahead)))
     ∙ sym (append-assoc taken (take n piece) (joined (again (drop n piece) ahead)))
-run-front (recuts {taken = taken} other run same) = run-front run ∙ ap (λ (l : List ℕ). taken ++ l) (sym same)
+run-front (recuts {taken = taken} other may run same) = run-front run ∙ ap (λ (l : List ℕ). taken ++ l) (sym same)
 
 -- What is asked of the calls, where `unread` are the bytes that a state holds unread. `next` is one search of them
 pub record Searches {R : Type 0} (judge : Judge R) (calls : Calls R) (unread : calls .State → List ℕ) : Type 0 where
@@ -77,10 +77,10 @@ module _ {R : Type 0} (judge : Judge R) (steady : Steady judge) (calls : Calls R
   asking-ends answers s = ends-in (suc (length (unread s))) s answers (omega arith)
 
 module _ {R : Type 0} (judge : Judge R) (steady : Steady judge) (calls : Calls R) (unread : calls .State → List ℕ) (faithful : Faithful judge calls unread) where
-  run-comes : {pieces ahead : List (List ℕ)} {taken : List ℕ} {replies : List R} {s : calls .State} → Run calls pieces ahead taken replies s → Comes judge replies (unread s) taken
+  run-comes : {Recut : Type 0} {pieces ahead : List (List ℕ)} {taken : List ℕ} {replies : List R} {s : calls .State} → Run calls Recut pieces ahead taken replies s → Comes judge replies (unread s) taken
   unfolding searches searchTurns
   run-comes (starts first) = record { given = refl; left = faithful .fresh first }
-  run-comes (recuts other run same) = run-comes run
+  run-comes (recuts other may run same) = run-comes run
   run-comes (offers {piece = piece} {taken = taken} {n = n} run may feeds asked) =
       let before = run-comes run in
       let now = asked-comes judge steady calls unread (faithful .next) asked in
@@ -93,18 +93,18 @@ module _ {R : Type 0} (judge : Judge R) (steady : Steady judge) (calls : Calls R
       }
 
   -- "the replies are those of one left-to-right reading .., in order and no others": of what was taken; and what that reading leaves is unread
-  pub run-replies : {pieces ahead : List (List ℕ)} {taken : List ℕ} {replies : List R} {s : calls .State} → Run calls pieces ahead taken replies s → replies ≡ repliesOf (reading judge taken .given)
+  pub run-replies : {Recut : Type 0} {pieces ahead : List (List ℕ)} {taken : List ℕ} {replies : List R} {s : calls .State} → Run calls Recut pieces ahead taken replies s → replies ≡ repliesOf (reading judge taken .given)
   run-replies {taken = taken} run = run-comes run .given ∙ searches-reading judge steady 0 taken .replies
 
-  pub run-unread : {pieces ahead : List (List ℕ)} {taken : List ℕ} {replies : List R} {s : calls .State} → Run calls pieces ahead taken replies s → unread s ≡ reading judge taken .rest
+  pub run-unread : {Recut : Type 0} {pieces ahead : List (List ℕ)} {taken : List ℕ} {replies : List R} {s : calls .State} → Run calls Recut pieces ahead taken replies s → unread s ≡ reading judge taken .rest
   run-unread {taken = taken} run = run-comes run .left ∙ searches-reading judge steady 0 taken .rest
 
-  run-waits : {pieces ahead : List (List ℕ)} {taken : List ℕ} {replies : List R} {s : calls .State} → Run calls pieces ahead taken replies s → judge (unread s) ≡ notYet
+  run-waits : {Recut : Type 0} {pieces ahead : List (List ℕ)} {taken : List ℕ} {replies : List R} {s : calls .State} → Run calls Recut pieces ahead taken replies s → judge (unread s) ≡ notYet
   run-waits {taken = taken} run = ap judge (run-comes run .left) ∙ searches-rest judge steady taken
 
   -- "A good frame overlapped by no earlier frame of that reading is given": the frame, good by its own n bytes, stands at p of the stream; its own last byte is taken,
   -- and bound - 1 bytes counted from its first are.
-  pub in-time : (bound : ℕ) → Bounded judge bound → {pieces ahead : List (List ℕ)} {taken : List ℕ} {replies : List R} {s : calls .State} → Run calls pieces ahead taken replies s → (p n : ℕ) (reply : R)
+  pub in-time : (bound : ℕ) → Bounded judge bound → {Recut : Type 0} {pieces ahead : List (List ℕ)} {taken : List ℕ} {replies : List R} {s : calls .State} → Run calls Recut pieces ahead taken replies s → (p n : ℕ) (reply : R)
       → judge (take n (drop p (joined pieces))) ≡ takes n reply → NoneOver p (reading judge (joined pieces) .given)
       → p + n ≤ length taken → TakenIn bound p taken
       → GivenSoFar p n reply (reading judge (joined pieces) .given) replies
@@ -115,7 +115,7 @@ module _ {R : Type 0} (judge : Judge R) (steady : Steady judge) (calls : Calls R
       rw f (record { frame = given-stays judge steady taken (joined ahead) p n reply a; later = repliesOf (a .after); exactly = run-replies run ∙ reply-given a })
 
   -- An offer takes a byte or more.
-  pub takes-some : {pieces ahead : List (List ℕ)} {taken : List ℕ} {replies : List R} {s t : calls .State} {n : ℕ} → Run calls pieces ahead taken replies s → (piece : List ℕ) → 0 < length piece → calls .Feeds s piece n t
+  pub takes-some : {Recut : Type 0} {pieces ahead : List (List ℕ)} {taken : List ℕ} {replies : List R} {s t : calls .State} {n : ℕ} → Run calls Recut pieces ahead taken replies s → (piece : List ℕ) → 0 < length piece → calls .Feeds s piece n t
       → 0 < n
   takes-some run piece some feeds = faithful .some (run-waits run) some feeds
 
@@ -124,10 +124,16 @@ asked-reached : {R : Type 0} {calls : Calls R} {s u : calls .State} {replies : L
 asked-reached reached (ends none) = by-nothing reached none
 asked-reached reached (gives {reply = reply} given asked) = asked-reached (by-reply reply reached given) asked
 
-pub run-reached : {R : Type 0} {calls : Calls R} {pieces ahead : List (List ℕ)} {taken : List ℕ} {replies : List R} {s : calls .State} → Run calls pieces ahead taken replies s → Reached calls s
+pub run-reached : {R : Type 0} {calls : Calls R} {Recut : Type 0} {pieces ahead : List (List ℕ)} {taken : List ℕ} {replies : List R} {s : calls .State} → Run calls Recut pieces ahead taken replies s → Reached calls s
 run-reached (starts first) = at-first first
 run-reached (offers {piece = piece} {n = n} run may feeds asked) = asked-reached (by-feed piece n (run-reached run) feeds) asked
-run-reached (recuts other run same) = run-reached run
+run-reached (recuts other may run same) = run-reached run
+
+-- A run whose caller never cuts anew is one whose caller may.
+pub run-plain : {R : Type 0} {calls : Calls R} {pieces ahead : List (List ℕ)} {taken : List ℕ} {replies : List R} {s : calls .State} → Run calls ⊥ pieces ahead taken replies s → Run calls Unit pieces ahead taken replies s
+run-plain (starts first) = starts first
+run-plain (offers run may feeds asked) = offers (run-plain run) may feeds asked
+run-plain (recuts other never run same) = absurd never
 
 -- Where asking ends there are replies that it ends with.
 pub asked-of : {R : Type 0} {calls : Calls R} {s : calls .State} → AskingEnds calls s → (replies : List R) × (u : calls .State) × Asked calls s replies u
@@ -144,7 +150,7 @@ pub record Able {R : Type 0} (calls : Calls R) : Type 0 where
 
 module _ {R : Type 0} (judge : Judge R) (steady : Steady judge) (calls : Calls R) (unread : calls .State → List ℕ) (faithful : Faithful judge calls unread) (able : Able calls) where
   -- From any point of a run on: each offer takes a byte or more, so that fewer are ahead.
-  runs-end : (k : ℕ) (ahead : List (List ℕ)) {pieces : List (List ℕ)} {taken : List ℕ} {replies : List R} {s : calls .State} → Run calls pieces ahead taken replies s → Nonempty ahead
+  runs-end : (k : ℕ) (ahead : List (List ℕ)) {Recut : Type 0} {pieces : List (List ℕ)} {taken : List ℕ} {replies : List R} {s : calls .State} → Run calls Recut pieces ahead taken replies s → Nonempty ahead
       → length (joined ahead) < k → Ends calls ahead s
   runs-end zero ahead run some h = absurd (omega arith)
   runs-end (suc k) [] run some h = all-taken
@@ -155,17 +161,17 @@ module _ {R : Type 0} (judge : Judge R) (steady : Steady judge) (calls : Calls R
       runs-end k (again (drop n piece) ahead) (offers run (able .piece a-byte) feeds asked) (nonempty-again (drop n piece) ahead others)
       (omega (arith, some, a-byte, fewer, length-append (drop n piece) (joined ahead), length-drop n piece, length-append piece (joined ahead))))
 
-  pub run-ends : {pieces ahead : List (List ℕ)} {taken : List ℕ} {replies : List R} {s : calls .State} → Run calls pieces ahead taken replies s → Nonempty ahead → Ends calls ahead s
+  pub run-ends : {Recut : Type 0} {pieces ahead : List (List ℕ)} {taken : List ℕ} {replies : List R} {s : calls .State} → Run calls Recut pieces ahead taken replies s → Nonempty ahead → Ends calls ahead s
   run-ends {ahead = ahead} run some = runs-end (suc (length (joined ahead))) ahead run some (omega arith)
 
-  ended : {pieces ahead : List (List ℕ)} {taken : List ℕ} {replies : List R} {s : calls .State} → Run calls pieces ahead taken replies s → Nonempty ahead → Ends calls ahead s
-      → (given : List R) × (u : calls .State) × Run calls pieces [] (joined pieces) given u
-  ended {pieces} {taken = taken} {replies = replies} {s = s} run some all-taken =
-      (replies, s, subst (λ (l : List ℕ). Run calls pieces [] l replies s) (sym (run-front run ∙ append-nil taken)) run)
+  ended : {Recut : Type 0} {pieces ahead : List (List ℕ)} {taken : List ℕ} {replies : List R} {s : calls .State} → Run calls Recut pieces ahead taken replies s → Nonempty ahead → Ends calls ahead s
+      → (given : List R) × (u : calls .State) × Run calls Recut pieces [] (joined pieces) given u
+  ended {Recut} {pieces} {taken = taken} {replies = replies} {s = s} run some all-taken =
+      (replies, s, subst (λ (l : List ℕ). Run calls Recut pieces [] l replies s) (sym (run-front run ∙ append-nil taken)) run)
   ended run (a-byte, others) (offering {ahead} {piece} (n, t, feeds) asks on) =
       let asked = asked-of (asks n t feeds) in
       ended (offers run (able .piece a-byte) feeds (asked .2)) (nonempty-again (drop n piece) ahead others) (on n t (asked .1) (asked .0) feeds (asked .2))
 
   -- Every cutting into pieces with a byte has a run that takes all of it.
-  pub runs-whole : (pieces : List (List ℕ)) → Nonempty pieces → (replies : List R) × (s : calls .State) × Run calls pieces [] (joined pieces) replies s
+  pub runs-whole : (pieces : List (List ℕ)) → Nonempty pieces → (replies : List R) × (s : calls .State) × Run calls ⊥ pieces [] (joined pieces) replies s
   runs-whole pieces some = let first = starts (able .fresh) in ended first some (run-ends first some)

@@ -33,7 +33,7 @@ use Rattle.envelope.proofs.Good.{good-judged}
 use Rattle.reply.specs.Decode.{Decode, replyBy, decodeOf, decoded}
 use Rattle.reply.specs.declared.Decoded.{Decoded}
 use Rattle.reply.specs.Reply.{emptyReply}
-use Rattle.line.proofs.Runs.{run-front, run-reached}
+use Rattle.line.proofs.Runs.{run-front, run-reached, run-plain}
 use Rattle.reply.proofs.Nearness.{decoded-near}
 use Rattle.decoder.proofs.DemandThree as stream
 use Rattle.vesc.specs.Demands.{EncodeRefuses, DecodeRefuses, Fields, NoneOf, replyIds, Way, no-start, start-wrong, no-length, no-id, unknown-id, no-field, no-nul, length-wrong, no-end, end-wrong, sum-wrong, good, answerOf, DemandOne, DemandTwo, DemandThree, FiguresBalance, carried, summed}
@@ -222,6 +222,7 @@ demand-three =
       as-read = λ run. record { stream = run-front run; in-order = stream.run-replies run; unread = stream.run-unread run; in-time = stream.in-time run };
       whole = λ run. stream.whole-reading run;
       exists = stream.runs-whole;
+      plain = λ run. run-plain run;
       ends = λ run. stream.ends run;
       takes-some = λ run. stream.takes-some run;
     }

@@ -40,7 +40,7 @@ use Rattle.decoder.specs.declared.Fed.{Fed}
 use Rattle.decoder.specs.declared.Figures.{Figures}
 use Rattle.decoder.specs.Frames.{frames}
 use Rattle.decoder.specs.State.{lineOf, figuresOf, FeedIs}
-use Rattle.decoder.specs.Runs.{Run, Ends, Reached}
+use Rattle.decoder.specs.Runs.{Run, PlainRun, Ends, Reached}
 
 -- "1. No call traps, hangs or relies on its caller. IncompleteData, InvalidFrame, UnknownPacket, ChecksumMismatch,
 -- BufferTooSmall and PayloadTooLong come exactly when document 01 says. A refused encode writes nothing."
@@ -154,7 +154,8 @@ pub record DemandTwo : Type 0 where
 -- middle of a piece: `pieces` is the cutting, `ahead` are the pieces still to be offered, `taken` the bytes taken in so
 -- far, `replies` the replies so far, and d is the decoder then. Each call may return whatever its contract allows:
 -- `Holds fresh` for `new`, `FeedIs` for `feed`, `NextIs` for `next` (decoder/specs/State.antt). `joined pieces` is the
--- uncut stream, and `reading` is defined from `decode` alone.
+-- uncut stream, and `reading` is defined from `decode` alone. What is ahead may be cut anew at any time; in a `PlainRun`
+-- it is not.
 pub record AsRead (pieces ahead : List (List ℕ)) (taken : List ℕ) (replies : List CommandReply) (d : Decoder) : Type 0 where
   -- the stream is what is taken and then what is ahead
   pub stream : joined pieces ≡ taken ++ joined ahead
@@ -174,8 +175,9 @@ pub record DemandThree : Type 0 where
   -- Once nothing is ahead, "the replies are those of one left-to-right reading of the uncut stream"
   pub whole : {pieces : List (List ℕ)} {taken : List ℕ} {replies : List CommandReply} {d : Decoder} → Run pieces [] taken replies d
       → replies ≡ repliesOf (reading frames (joined pieces) .given)
-  -- Every cutting into nonempty pieces has a run that takes all of it
-  pub exists : (pieces : List (List ℕ)) → Nonempty pieces → (replies : List CommandReply) × (d : Decoder) × Run pieces [] (joined pieces) replies d
+  -- Every cutting into nonempty pieces has a run that offers just them, and takes all
+  pub exists : (pieces : List (List ℕ)) → Nonempty pieces → (replies : List CommandReply) × (d : Decoder) × PlainRun pieces [] (joined pieces) replies d
+  pub plain : {pieces ahead : List (List ℕ)} {taken : List ℕ} {replies : List CommandReply} {d : Decoder} → PlainRun pieces ahead taken replies d → Run pieces ahead taken replies d
   -- From any point of any run on, every call has a result, and whatever the results are, all is taken in the end
   pub ends : {pieces ahead : List (List ℕ)} {taken : List ℕ} {replies : List CommandReply} {d : Decoder} → Run pieces ahead taken replies d → Nonempty ahead → Ends ahead d
   -- because `feed` takes a byte or more of a nonempty piece
