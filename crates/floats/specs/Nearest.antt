@@ -1,6 +1,7 @@
--- The binary32 that a whole number becomes, in the words of IEEE 754-2019, 4.3.1, "roundTiesToEven": "the floating-point number nearest to the infinitely precise
--- result shall be delivered; if the two nearest floating-point numbers bracketing an unrepresentable infinitely precise result are equally near, the one with an
--- even least significant digit shall be delivered". Said of `lib.Ieee`'s values, over whole numbers and without fractions. Assumes nothing.
+-- The binary32 that a whole number becomes, by IEEE 754-2019, 4.3.1, roundTiesToEven: "the floating-point number nearest to the infinitely
+-- precise result shall be delivered; if the two nearest floating-point numbers bracketing an unrepresentable infinitely precise result are
+-- equally near, the one with an even least significant digit shall be delivered". The claim is on the values of `lib.Ieee`, over whole numbers
+-- and without fractions. Assumes nothing.
 use mathlib.Core.Path.{_≡_}
 use mathlib.Core.Bool.{Bool·beq, cond}
 use mathlib.Core.Logic.{_⊎_}
@@ -12,7 +13,8 @@ use lib.Ieee.Scale.{finite}
 use Rattle.floats.specs.Near.{gap, size, negative}
 
 -- The distance of a finite float from a whole number, | x - raw |, is the fraction `distance x raw` / `over x`. The magnitude of `fin t m e` is
--- m * up e / down e, and that of raw is size raw * down e / down e; the distance is their gap where the signs agree, and else their sum.
+-- m * up e / down e, and that of raw is size raw * down e / down e; the distance is their gap if the signs agree, and else their sum.
+-- A NaN and an infinity have no distance: `NearestEven` leaves them out.
 abbrev pub distance : Float → ℤ → ℕ
 distance nan raw = 0
 distance (inf t) raw = 0
@@ -23,7 +25,7 @@ over nan = 1
 over (inf t) = 1
 over (fin t m e) = down e
 
--- x is the binary32 that raw is rounded to. `fits binary32` says that a value is a binary32 number. The last bit of its pattern is the least
+-- x is the binary32 that raw is rounded to. `fits binary32` says that a value is one of binary32. The last bit of its pattern is the least
 -- significant digit of its significand.
 pub record NearestEven (raw : ℤ) (x : Float) : Type 0 where
   pub is-finite : T (finite x)

@@ -17,7 +17,7 @@ Bytes s = (at : ℕ) → getD s at 0 < 256
 abbrev pub rawAt : ℕ → List ℕ → ℕ → ℤ
 rawAt width s at = signedOf (256 ^ width) (beAt s at width)
 
--- "for raw r and scale s the reading is within |r|/s divided by 2^22 of r/s": x is so near the raw number of so many bytes at a place over the scale
+-- "for raw r and scale s the reading is within |r|/s divided by 2^22 of r/s": x is that near, for the raw number of so many bytes at a place
 abbrev pub ScaledNear : ℕ → ℕ → List ℕ → ℕ → Float → Type 0
 ScaledNear width scale s at x = Near x (negative (rawAt width s at)) (size (rawAt width s at)) scale nearness
 

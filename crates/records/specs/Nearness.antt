@@ -66,7 +66,7 @@ setupFloats v =
     ∷ zero  -- uptime_ms
     ∷ []
 
--- the bound, of a field whose bytes begin at a place: of the kinds hS and wS; nothing is claimed of the others, which are not scaled
+-- the bound, of a field whose bytes begin at a place, if its kind is hS or wS; the other kinds are not scaled, and nothing is claimed of them
 abbrev pub KindNear : Kind → List ℕ → ℕ → Float → Type 0
 KindNear (h scale) s at x = ScaledNear 2 scale s at x
 KindNear (w scale) s at x = ScaledNear 4 scale s at x
@@ -75,7 +75,7 @@ KindNear u s at x = Unit {0}
 KindNear b s at x = Unit {0}
 KindNear F s at x = Unit {0}
 
--- the bound, of each field that the mask has. The fields begin at `start` in s, and a field's bytes follow those of the fields before it.
+-- the bound, of each field whose bit the mask has. The fields begin at `start` in s, and a field's bytes follow those of the fields before it.
 -- Past the end of the floats stands a NaN, which is near nothing.
 abbrev pub FieldsNear : List Field → ℕ → List ℕ → ℕ → List Float → Type 0
 FieldsNear table mask s start floats =

@@ -7,8 +7,9 @@ use native.Mathlib.Omega.{arith}
 use lib.Dec.{eqb}
 use lib.ListN.{length, getD, take, drop, length-drop, take-append-drop}
 use lib.Seq.{length-take-le, getD-take, getD-drop}
-use borrow.Author.Tests.{eqb-true}
-use Rattle.refusals.specs.Refusals.{Answer, given}
+use borrow.Author.Tests.{eqb-true, eqb-false, ne-eqb}
+use Rattle.refusals.specs.Refusals.{Answer, given, refused, unknownPacket}
+use Rattle.refusals.proofs.Different.{none}
 use Rattle.packer.specs.Numbers.{beAt}
 use Rattle.packer.specs.Reading.{unsignedAt, consumeAt}
 use Rattle.packer.specs.Nearness.{Bytes}
@@ -44,12 +45,13 @@ number-drop s at (suc width) =
 abbrev hasScaled : ℕ → Bool
 hasScaled id = eqb id 4 || eqb id 50 || eqb id 51
 
-other : (s : List ℕ) (reply : CommandReply) → hasScaled (kindNumber (reply .kind)) ≡ false → RecordsNear s reply
-other s reply none =
+other : (s : List ℕ) (reply : CommandReply) → hasScaled (kindNumber (reply .kind)) ≡ false → getD s 2 0 ≡ kindNumber (reply .kind) → RecordsNear s reply
+other s reply plain id =
     record {
-      get-values = λ e. absurd (true≢false (sym (ap (λ (k : Kind). hasScaled (kindNumber k)) e) ∙ none));
-      get-values-selective = λ e. absurd (true≢false (sym (ap (λ (k : Kind). hasScaled (kindNumber k)) e) ∙ none));
-      get-values-setup-selective = λ e. absurd (true≢false (sym (ap (λ (k : Kind). hasScaled (kindNumber k)) e) ∙ none));
+      kind = sym id;
+      get-values = λ e. absurd (true≢false (sym (ap (λ (k : Kind). hasScaled (kindNumber k)) e) ∙ plain));
+      get-values-selective = λ e. absurd (true≢false (sym (ap (λ (k : Kind). hasScaled (kindNumber k)) e) ∙ plain));
+      get-values-setup-selective = λ e. absurd (true≢false (sym (ap (λ (k : Kind). hasScaled (kindNumber k)) e) ∙ plain));
     }
 
 -- ---- a good frame's payload
@@ -100,6 +102,7 @@ module _ (s : List ℕ) (n : ℕ) (good : GoodFrame s n) (some : 0 < n) (bytes :
   unfolding getValuesOf
   get-values-near id =
       record {
+        kind = sym id;
         get-values = λ e. values-near (2 ^ 22 - 1) s 3 _ bytes (raws-there valuesTable (2 ^ 22 - 1) 1 (all-end id));
         get-values-selective = λ e. let z : _≡_ {A = ℕ} 4 50 = ap kindNumber e in absurd (omega arith);
         get-values-setup-selective = λ e. let z : _≡_ {A = ℕ} 4 51 = ap kindNumber e in absurd (omega arith);
@@ -111,6 +114,7 @@ module _ (s : List ℕ) (n : ℕ) (good : GoodFrame s n) (some : 0 < n) (bytes :
       let m = masked-end valuesTable (rw id at (good .fields)) in
       rw (m .mask)
       (record {
+        kind = sym id;
         get-values = λ e. let z : _≡_ {A = ℕ} 50 4 = ap kindNumber e in absurd (omega arith);
         get-values-selective = λ e. values-near (beAt s 3 4) s 7 _ bytes (raws-there valuesTable (beAt s 3 4) 5 (m .end));
         get-values-setup-selective = λ e. let z : _≡_ {A = ℕ} 50 51 = ap kindNumber e in absurd (omega arith);
@@ -122,6 +126,7 @@ module _ (s : List ℕ) (n : ℕ) (good : GoodFrame s n) (some : 0 < n) (bytes :
       let m = masked-end setupTable (rw id at (good .fields)) in
       rw (m .mask)
       (record {
+        kind = sym id;
         get-values = λ e. let z : _≡_ {A = ℕ} 51 4 = ap kindNumber e in absurd (omega arith);
         get-values-selective = λ e. let z : _≡_ {A = ℕ} 51 50 = ap kindNumber e in absurd (omega arith);
         get-values-setup-selective = λ e. setup-near (beAt s 3 4) s 7 _ bytes (raws-there setupTable (beAt s 3 4) 5 (m .end));
@@ -129,25 +134,28 @@ module _ (s : List ℕ) (n : ℕ) (good : GoodFrame s n) (some : 0 < n) (bytes :
 
   -- one test of the id
   by-id
-      : (id : ℕ) (yes-reply no-reply : CommandReply) → (getD s 2 0 ≡ id → RecordsNear s yes-reply) → RecordsNear s no-reply
+      : (id : ℕ) (yes-reply no-reply : CommandReply) → (getD s 2 0 ≡ id → RecordsNear s yes-reply)
+      → ((getD s 2 0 ≡ id → ⊥) → RecordsNear s no-reply)
       → RecordsNear s (cond (eqb (getD payload 0 0) id) yes-reply no-reply)
   by-id id yes-reply no-reply is else = go (eqb (getD payload 0 0) id) refl
     where
       go : (t : Bool) → eqb (getD payload 0 0) id ≡ t → RecordsNear s (cond t yes-reply no-reply)
       go true e = is (sym id-there ∙ eqb-true _ id e)
-      go false e = else
+      go false e = else (λ is-id. eqb-false _ id e (id-there ∙ is-id))
 
   reply-near : RecordsNear s (replyOf payload)
-  unfolding replyOf fwVersionReplyOf getStatsOf fwInfoReplyOf blankOf emptyReply
+  unfolding replyOf fwVersionReplyOf getStatsOf fwInfoReplyOf blankOf emptyReply fieldsEnd
   reply-near =
-      by-id 0 _ _ (λ id. other s _ refl)
-      (by-id 4 _ _ get-values-near
-      (by-id 50 _ _ selective-near
-      (by-id 51 _ _ setup-selective-near
-      (by-id 128 _ _ (λ id. other s _ refl)
-      (by-id 129 _ _ (λ id. other s _ refl)
-      (by-id 157 _ _ (λ id. other s _ refl)
-      (other s _ refl)))))))
+      by-id 0 _ _ (other s _ refl) (λ not-0.
+      by-id 4 _ _ get-values-near (λ not-4.
+      by-id 50 _ _ selective-near (λ not-50.
+      by-id 51 _ _ setup-selective-near (λ not-51.
+      by-id 128 _ _ (other s _ refl) (λ not-128.
+      by-id 129 _ _ (other s _ refl) (λ not-129.
+      by-id 157 _ _ (other s _ refl) (λ not-157.
+      let no : refused (unknownPacket (getD s 2 0)) ≡ given n =
+      rw (ne-eqb _ 0 not-0, ne-eqb _ 4 not-4, ne-eqb _ 50 not-50, ne-eqb _ 51 not-51, ne-eqb _ 128 not-128, ne-eqb _ 129 not-129, ne-eqb _ 157 not-157) at (good .fields) in
+      none (cc))))))))
 
 -- whatever `decode` returns of a slice, where that is a good frame
 pub decoded-near : (s : List ℕ) → Bytes s → (d : Decoded) → decoded d ≡ decodeOf s → (count : ℕ) → d .answer ≡ Good count → RecordsNear s (d .reply)

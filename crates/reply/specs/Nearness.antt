@@ -2,15 +2,18 @@
 use mathlib.Core.Path.{_≡_}
 use Prim.Native.Nat.{ℕ, _-_, _^_}
 use mathlib.Core.List.{List}
+use lib.ListN.{getD}
 use Rattle.packer.specs.Numbers.{beAt}
 use Rattle.fields.specs.Fields.{valuesTable, setupTable}
 use Rattle.records.specs.Nearness.{valuesFloats, setupFloats, FieldsNear}
+use Rattle.reply.specs.Reply.{kindNumber}
 use Rattle.reply.specs.declared.Kind.the-variants as Kind
 use Rattle.reply.specs.declared.CommandReply.{CommandReply}
 
--- A frame's payload begins at byte 2 with the id. The fields of GetValues follow at byte 3, all of them. In the other two the mask follows, in bytes 3 to 6,
--- and the fields that it has begin at byte 7.
+-- A frame's payload begins at byte 2 of the slice, with the id, which says the reply's kind. GetValues has all its fields, from byte 3 on.
+-- The other two have a mask in bytes 3 to 6, and the fields whose bits it has from byte 7 on.
 pub record RecordsNear (s : List ℕ) (reply : CommandReply) : Type 0 where
+  pub kind : kindNumber (reply .kind) ≡ getD s 2 0
   pub get-values : reply .kind ≡ Kind.GetValues → FieldsNear valuesTable (2 ^ 22 - 1) s 3 (valuesFloats (reply .values))
   pub get-values-selective : reply .kind ≡ Kind.GetValuesSelective → FieldsNear valuesTable (beAt s 3 4) s 7 (valuesFloats (reply .values))
   pub get-values-setup-selective

@@ -37,7 +37,7 @@ pub record FoundText (name : List ℕ) (has : Bool) (size : ℕ) : Type 0 where
   pub inside : size ≤ length name
   pub part : take size name ≡ textOf name
 
--- A claim on the two functions that the contracts cite, in words that need neither of them.
+-- What the answers of `has_text` and `text` mean, without the definitions above.
 
 -- the first NUL of a name stands at k; past the end `getD` gives 1, which is no NUL
 pub record FirstNulAt (name : List ℕ) (k : ℕ) : Type 0 where
@@ -50,7 +50,7 @@ pub record TextEndsAt (name : List ℕ) (k : ℕ) : Type 0 where
   pub nul : FirstNulAt name k
   pub formed : WellFormed (take k name)
 
--- `has` says whether a name has a text, and `part` is that text: the k bytes, or no byte where there is no text
+-- `has` is whether a name has a text, and `part` is that text: the k bytes, or no byte if there is no text
 pub record TextOfName (name : List ℕ) (has : Bool) (part : List ℕ) : Type 0 where
   pub exactly : (has ≡ true) ↔ ((k : ℕ) × TextEndsAt name k)
   pub bytes : (k : ℕ) → TextEndsAt name k → part ≡ take k name
