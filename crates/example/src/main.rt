@@ -1,5 +1,6 @@
 // The examples of README.md: the code that it shows stands here, and the gate runs it.
 use libc::STDOUT_FILENO;
+use packer::UnpackedU32;
 use vesc::Command;
 use vesc::Decoder;
 use vesc::Encoded;
@@ -7,26 +8,34 @@ use vesc::Judged;
 use vesc::Kind;
 use vesc::ValuesMask;
 
-fn say(what: &[u8], number: usize) {
+fn say(what: &[u8], number: u64) {
     let ok = io::write_all(STDOUT_FILENO, what)
-        && io::print_decimal(STDOUT_FILENO, number as u64)
+        && io::print_decimal(STDOUT_FILENO, number)
         && io::write_all(STDOUT_FILENO, b"\n");
     if !ok {
         os::fail(b"example: standard output");
     }
 }
 
-// A number with its sign. Every i32 has its opposite among the i64.
-fn say_signed(what: &[u8], number: i32) {
-    let wide = number as i64;
-    if wide < 0 {
-        let ok = io::write_all(STDOUT_FILENO, what) && io::write_all(STDOUT_FILENO, b"-");
-        if !ok {
+// The whole part of a number that is not negative: it is written as an i32, and read back.
+fn whole(value: f32) -> u64 {
+    let mut four = [0u8; 4];
+    packer::pack_f32(&mut four, 0, value, 1.0);
+    match packer::unpack_u32(&four, 0) {
+        UnpackedU32::Got(number, _) => number as u64,
+        UnpackedU32::Refused(_) => 0,
+    }
+}
+
+// A telemetry field, cut off to a whole number.
+fn say_field(what: &[u8], value: f32) {
+    if value < 0.0 {
+        if !io::write_all(STDOUT_FILENO, what) {
             os::fail(b"example: standard output");
         }
-        say(b"", (0 - wide) as usize);
+        say(b"-", whole(-value));
     } else {
-        say(what, wide as usize);
+        say(what, whole(value));
     }
 }
 
@@ -35,8 +44,8 @@ fn encoding() {
     let query = Command::GetValuesSelective(ValuesMask::RPM | ValuesMask::VOLTAGE_IN);
     let hops = [7u8];
     match vesc::encode(query, &hops, &mut buf) {
-        Encoded::Written(count) => say(b"bytes to send: ", count),
-        Encoded::Refused(e) => say(b"refusal ", e.number() as usize),
+        Encoded::Written(count) => say(b"bytes to send: ", count as u64),
+        Encoded::Refused(e) => say(b"refusal ", e.number() as u64),
     }
 }
 
@@ -46,20 +55,20 @@ fn decoding(received: &[u8]) {
     let reply = decoded.reply;
     match answer {
         Judged::Good(count) => {
-            say(b"bytes of the frame: ", count);
+            say(b"bytes of the frame: ", count as u64);
             let kind = reply.kind;
             match kind {
                 Kind::GetValuesSelective => {
                     let values = reply.values;
                     let fault = values.fault_code;
-                    say_signed(b"rpm: ", floats::f32_to_i32(values.rpm));
-                    say_signed(b"millivolts: ", floats::unscaled(values.voltage_in, 1000.0));
-                    say(b"fault code: ", vesc::fault_number(fault) as usize);
+                    say_field(b"rpm: ", values.rpm);
+                    say_field(b"millivolts: ", values.voltage_in * 1000.0);
+                    say(b"fault code: ", vesc::fault_number(fault) as u64);
                 }
-                _ => say(b"another reply: ", kind.number() as usize),
+                _ => say(b"another reply: ", kind.number() as u64),
             }
         }
-        Judged::Refused(e) => say(b"refusal ", e.number() as usize),
+        Judged::Refused(e) => say(b"refusal ", e.number() as u64),
     }
 }
 
@@ -76,7 +85,7 @@ fn asked(start: Decoder) -> Decoder {
         }
         let reply = next.reply;
         let kind = reply.kind;
-        say(b"reply ", kind.number() as usize);
+        say(b"reply ", kind.number() as u64);
         turns -= 1;
     }
     decoder
@@ -93,7 +102,7 @@ fn received(start: Decoder, piece: &[u8]) -> Decoder {
         }
         let fed = decoder.feed(&piece[taken..]);
         let count = fed.count;
-        say(b"bytes taken: ", count);
+        say(b"bytes taken: ", count as u64);
         decoder = asked(fed.decoder);
         if piece.len() - taken < count {
             return decoder;
