@@ -1,4 +1,5 @@
 pub mod Turns
+pub mod Rule
 pub mod Rest
 pub mod Frames
 pub mod Joined

@@ -76,6 +76,16 @@ module _ {R : Type 0} where
     abbrev pub reading : List ℕ → Reading R
     reading l = readingFrom 0 l
 
+    -- The same as a rule, with no turns to count: what reading l comes to, the first byte of which stands at `place`
+    pub data Reads : (place : ℕ) (l : List ℕ) → Reading R → Type 0 where
+      -- "a good frame is given and passed whole"
+      at-frame : {place n : ℕ} {l : List ℕ} {r : R} {o : Reading R} → judge l ≡ takes n r → Reads (place + n) (drop n l) o
+          → Reads place l (gives (record { place = place; size = n; reply = r }) o)
+      -- "where `decode` answers 1 the reading stops"
+      at-stop : {place : ℕ} {l : List ℕ} → judge l ≡ notYet → Reads place l (stops l)
+      -- "otherwise it moves on one byte"
+      at-other : {place : ℕ} {l : List ℕ} {o : Reading R} → judge l ≡ movesOn → Reads (place + 1) (drop 1 l) o → Reads place l o
+
 -- the uncut stream: its pieces, joined
 abbrev pub joined : List (List ℕ) → List ℕ
 joined [] = []

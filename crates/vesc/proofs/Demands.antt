@@ -33,7 +33,10 @@ use Rattle.envelope.proofs.Good.{good-judged}
 use Rattle.reply.specs.Decode.{Decode, replyBy, decodeOf, decoded}
 use Rattle.reply.specs.declared.Decoded.{Decoded}
 use Rattle.reply.specs.Reply.{emptyReply}
+use Rattle.reading.proofs.Rule.{reading-by-rule}
 use Rattle.line.proofs.Runs.{run-front, run-reached, run-plain}
+use Rattle.decoder.specs.Frames.{frames}
+use Rattle.decoder.proofs.Judging.{frames-steady}
 use Rattle.reply.proofs.Nearness.{decoded-near}
 use Rattle.decoder.proofs.DemandThree as stream
 use Rattle.vesc.specs.Demands.{EncodeRefuses, DecodeRefuses, Fields, NoneOf, replyIds, Way, no-start, start-wrong, no-length, no-id, unknown-id, no-field, no-nul, length-wrong, no-end, end-wrong, sum-wrong, good, answerOf, DemandOne, DemandTwo, DemandThree, FiguresBalance, carried, summed}
@@ -219,6 +222,7 @@ demand-two =
 pub demand-three : DemandThree
 demand-three =
     record {
+      by-rule = reading-by-rule frames frames-steady 0;
       as-read = λ run. record { stream = run-front run; in-order = stream.run-replies run; unread = stream.run-unread run; in-time = stream.in-time run };
       whole = λ run. stream.whole-reading run;
       exists = stream.runs-whole;

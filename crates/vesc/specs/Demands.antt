@@ -32,7 +32,7 @@ use Rattle.reply.specs.Nearness.{RecordsNear}
 use Rattle.reply.specs.declared.Decoded.{Decoded}
 use Rattle.reply.specs.Reply.{emptyReply}
 use Rattle.reply.specs.declared.CommandReply.{CommandReply}
-use Rattle.reading.specs.Reading.{reading, repliesOf, joined, takes}
+use Rattle.reading.specs.Reading.{Reading, reading, Reads, repliesOf, joined, takes}
 use Rattle.reading.specs.Lateness.{NoneOver}
 use Rattle.line.specs.Runs.{Nonempty, GivenSoFar}
 use Rattle.decoder.specs.declared.Decoder.{Decoder}
@@ -154,8 +154,8 @@ pub record DemandTwo : Type 0 where
 -- middle of a piece: `pieces` is the cutting, `ahead` are the pieces still to be offered, `taken` the bytes taken in so
 -- far, `replies` the replies so far, and d is the decoder then. Each call may return whatever its contract allows:
 -- `Holds fresh` for `new`, `FeedIs` for `feed`, `NextIs` for `next` (decoder/specs/State.antt). `joined pieces` is the
--- uncut stream, and `reading` is defined from `decode` alone. What is ahead may be cut anew at any time; in a `PlainRun`
--- it is not.
+-- uncut stream. `reading` is defined from `decode` alone. What is ahead may be cut anew at any time; in a `PlainRun` it
+-- is not.
 pub record AsRead (pieces ahead : List (List ℕ)) (taken : List ℕ) (replies : List CommandReply) (d : Decoder) : Type 0 where
   -- the stream is what is taken and then what is ahead
   pub stream : joined pieces ≡ taken ++ joined ahead
@@ -171,6 +171,9 @@ pub record AsRead (pieces ahead : List (List ℕ)) (taken : List ℕ) (replies :
       → GivenSoFar p n reply (reading frames (joined pieces) .given) replies
 
 pub record DemandThree : Type 0 where
+  -- `reading` is the one left-to-right reading: what document 01's rule comes to, and nothing else does
+  pub by-rule : (stream : List ℕ) (o : Reading CommandReply) → Reads frames 0 stream o ↔ (o ≡ reading frames stream)
+  -- what every run is, at each `next` that gave nothing
   pub as-read : {pieces ahead : List (List ℕ)} {taken : List ℕ} {replies : List CommandReply} {d : Decoder} → Run pieces ahead taken replies d → AsRead pieces ahead taken replies d
   -- Once nothing is ahead, "the replies are those of one left-to-right reading of the uncut stream"
   pub whole : {pieces : List (List ℕ)} {taken : List ℕ} {replies : List CommandReply} {d : Decoder} → Run pieces [] taken replies d
