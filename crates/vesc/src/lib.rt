@@ -1,6 +1,6 @@
 // The names that a caller uses. Ports src/lib.rs: encode commands, decode replies, decode a stream. A crate that uses the
-// types lists their crates too: copy the line of `example` in crates.txt. specs/Frames.antt has document 01's proved frames as one table, specs/Demands.antt the three
-// demands. Assumes nothing.
+// types lists their crates too: copy the line of `example` in crates.txt. specs/Frames.antt has document 01's proved
+// frames as one table, specs/Demands.antt the three demands. Assumes nothing.
 pub use command::Command;
 pub use command::CommandId;
 pub use command::StatsMask;
