@@ -29,12 +29,13 @@ abbrev pub calls : runs.Calls CommandReply
 calls = callsBy (λ piece. 0 < length piece) FeedTakes
 
 -- "Start the streaming decoder fresh. Hand it nonempty pieces, after each ask until it has no reply, and offer again
--- what it did not take.": the run of a cutting, up to some `next` that gave nothing, with the pieces still ahead, the
--- bytes taken so far, the replies so far, and the decoder then. The caller may cut anew what is ahead
+-- what it did not take.": the run of a cutting, at its start or after some `next` that gave nothing, with the pieces still
+-- ahead, the bytes taken so far, the replies so far, and the decoder then. The caller may also ask again, and cut anew what
+-- is ahead
 abbrev pub Run : (pieces ahead : List (List ℕ)) (taken : List ℕ) (replies : List CommandReply) → Decoder → Type 0
 Run = runs.Run calls Unit
 
--- the same, and the caller never does: it offers each piece, again what was not taken of it, and nothing else
+-- the same, and the caller does not: it offers each piece, again what was not taken of it, and asks after each
 abbrev pub PlainRun : (pieces ahead : List (List ℕ)) (taken : List ℕ) (replies : List CommandReply) → Decoder → Type 0
 PlainRun = runs.Run calls ⊥
 

@@ -1,12 +1,16 @@
 -- The longest frames are as long as document 01 says. Assumes nothing.
 use mathlib.Core.Path.{_≡_, refl}
 use mathlib.Core.List.{List, [], _∷_, _++_}
-use Prim.Native.Nat.{ℕ, _+_, _≤_}
+use mathlib.Core.Bool.{Bool, true, _&&_}
+use Prim.Native.Nat.{ℕ, zero, suc, _+_, _≤_}
 use native.Mathlib.Omega.{arith}
+use lib.Dec.{T, ltb, ltb→lt}
+use lib.Ieee.Fits.{and-l, and-r}
 use lib.ListN.{length, getD, drop, replicate}
 use Rattle.refusals.specs.Refusals.{given}
 use Rattle.checksum.specs.Xmodem.{bringDown, remainder, bitsOfByte, bitsOf, checksumOf}
 use Rattle.packer.specs.Numbers.{beAt}
+use Rattle.packer.specs.Nearness.{Bytes}
 use Rattle.packer.specs.Reading.{readAt, consumeAt}
 use Rattle.names.specs.Names.{nulWithin}
 use Rattle.fields.specs.Fields.{hasBit, takes, spanOf}
@@ -32,6 +36,16 @@ framed payload high low = 2 ∷ length payload ∷ payload ++ (high ∷ low ∷ 
 abbrev filled : ℕ → List ℕ
 filled letters = replicate letters 65 ++ (0 ∷ [])
 
+-- each number of a list is a byte, as a test to compute
+abbrev allBelow : List ℕ → Bool
+allBelow [] = true
+allBelow (x ∷ xs) = ltb x 256 && allBelow xs
+
+all-bytes : (l : List ℕ) → T (allBelow l) → Bytes l
+all-bytes [] t at = omega arith
+all-bytes (x ∷ xs) t zero = ltb→lt x 256 (and-l (ltb x 256) (allBelow xs) t)
+all-bytes (x ∷ xs) t (suc at) = all-bytes xs (and-r (ltb x 256) (allBelow xs) t) at
+
 pub longest-frames : LongestFrames
 unfolding
     judgeOf byteAt fieldsEnd fwVersion fwInfo getValues masked consumeAt nulWithin spanOf takes hasBit finishOf readAt beAt judgeSumOf payloadPart checksumOf remainder bringDown bitsOf bitsOfByte
@@ -41,14 +55,15 @@ longest-frames =
           record {
             none-longer = none-longer 104 0 reads-fw-version;
             one = framed (replicate 3 0 ++ (filled 38 ++ (replicate 20 0 ++ (filled 38 ++ replicate 4 0)))) 48 53;
-            as-long = refl;
+            bytes = all-bytes _ tt;
             its-id = refl;
+            as-long = refl;
           };
-      fw-info = record { none-longer = none-longer 97 157 reads-fw-info; one = framed (157 ∷ replicate 3 0 ++ (filled 46 ++ filled 46)) 17 115; as-long = refl; its-id = refl };
-      selective = record { none-longer = none-longer 77 50 reads-selective; one = framed (50 ∷ replicate 4 255 ++ replicate 73 0) 20 121; as-long = refl; its-id = refl };
-      get-values = record { none-longer = none-longer 73 4 reads-values; one = framed (4 ∷ replicate 73 0) 244 83; as-long = refl; its-id = refl };
-      setup = record { none-longer = none-longer 73 51 reads-setup; one = framed (51 ∷ replicate 4 255 ++ replicate 69 0) 188 28; as-long = refl; its-id = refl };
-      stats = record { none-longer = none-longer 48 128 reads-stats; one = framed (128 ∷ replicate 4 255 ++ replicate 44 0) 222 25; as-long = refl; its-id = refl };
-      reset-stats = record { none-longer = none-longer 0 129 reads-nothing; one = framed (129 ∷ []) 129 169; as-long = refl; its-id = refl };
+      fw-info = record { none-longer = none-longer 97 157 reads-fw-info; one = framed (157 ∷ replicate 3 0 ++ (filled 46 ++ filled 46)) 17 115; bytes = all-bytes _ tt; its-id = refl; as-long = refl };
+      selective = record { none-longer = none-longer 77 50 reads-selective; one = framed (50 ∷ replicate 4 255 ++ replicate 73 0) 20 121; bytes = all-bytes _ tt; its-id = refl; as-long = refl };
+      get-values = record { none-longer = none-longer 73 4 reads-values; one = framed (4 ∷ replicate 73 0) 244 83; bytes = all-bytes _ tt; its-id = refl; as-long = refl };
+      setup = record { none-longer = none-longer 73 51 reads-setup; one = framed (51 ∷ replicate 4 255 ++ replicate 69 0) 188 28; bytes = all-bytes _ tt; its-id = refl; as-long = refl };
+      stats = record { none-longer = none-longer 48 128 reads-stats; one = framed (128 ∷ replicate 4 255 ++ replicate 44 0) 222 25; bytes = all-bytes _ tt; its-id = refl; as-long = refl };
+      reset-stats = record { none-longer = none-longer 0 129 reads-nothing; one = framed (129 ∷ []) 129 169; bytes = all-bytes _ tt; its-id = refl; as-long = refl };
       enough = judge-full;
     }

@@ -6,14 +6,16 @@ use mathlib.Core.List.{List}
 use Prim.Native.Nat.{ℕ, _≤_}
 use lib.ListN.{length, getD}
 use Rattle.refusals.specs.Refusals.{given, refused, incompleteData}
+use Rattle.packer.specs.Nearness.{Bytes}
 use Rattle.envelope.specs.Envelope.{judgeOf}
 
 -- no good frame with the id is longer, and there is one as long
 pub record Longest (id most : ℕ) : Type 0 where
   pub none-longer : (s : List ℕ) (count : ℕ) → getD s 2 0 ≡ id → judgeOf s ≡ given count → count ≤ most
   pub one : List ℕ
-  pub as-long : judgeOf one ≡ given most
+  pub bytes : Bytes one
   pub its-id : getD one 2 0 ≡ id
+  pub as-long : judgeOf one ≡ given most
 
 pub record LongestFrames : Type 0 where
   pub fw-version : Longest 0 110

@@ -25,8 +25,8 @@ over nan = 1
 over (inf t) = 1
 over (fin t m e) = down e
 
--- x is the binary32 that raw is rounded to. `fits binary32` says that a value is one of binary32. The last bit of its pattern is the least
--- significant digit of its significand.
+-- x is the binary32 that raw is rounded to; for 0 both zeros are, and `ReadingNear` has the sign. `fits binary32` says
+-- that a value is one of binary32. The last bit of its pattern is the least significant digit of its significand.
 pub record NearestEven (raw : ℤ) (x : Float) : Type 0 where
   pub is-finite : T (finite x)
   pub is-binary32 : T (fits binary32 x)

@@ -7,7 +7,6 @@ use lib.ListN.{length}
 use Rattle.refusals.specs.Refusals.{given}
 use Rattle.command.specs.declared.Command.the-variants.{SetRpm, Alive}
 use Rattle.command.proofs.Sizes.{sizes}
-use Rattle.frame.specs.declared.Encoded.{Encoded}
 use Rattle.frame.specs.Frame.{payloadOf}
 use Rattle.frame.specs.Encode.{encodeAnswer}
 use Rattle.frame.specs.Limits.{HopLimits}
@@ -18,11 +17,15 @@ use Rattle.frame.proofs.Tests.{answer-too-long, answer-fits}
 passes : (n room : ℕ) → n ≡ 255 → 260 ≤ room → encodeAnswer n room ≡ given 260
 passes n room e k = rw e (answer-fits 255 room (omega arith) k)
 
-pub hop-limits : (hops buffer : List ℕ) (r : Encoded) (after : List ℕ) → HopLimits hops buffer r after
-hop-limits hops buffer r after =
+alive-255 : (hops : List ℕ) → length hops ≡ 127 → length (payloadOf Alive hops) ≡ 255
+alive-255 hops e = omega (arith, payload-length Alive hops)
+
+pub hop-limits : HopLimits
+hop-limits =
     record {
-      alive-after-127 = λ e. let n : length (payloadOf Alive hops) ≡ 255 = omega (arith, payload-length Alive hops) in (n, λ room w. w .answer ∙ passes _ _ n room);
-      rpm-after-125 = λ rpm e room w. w .answer ∙ passes _ _ (omega (arith, payload-length (SetRpm rpm) hops)) room;
-      rpm-after-126 = λ rpm e w. w .answer ∙ answer-too-long _ _ (omega (arith, payload-length (SetRpm rpm) hops));
-      any-after-128 = λ command h w. w .answer ∙ answer-too-long _ _ (omega (arith, payload-length command hops, sizes command));
+      alive-after-127 = λ hops buffer r after (e, room) w. w .answer ∙ passes _ _ (alive-255 hops e) room;
+      alive-bytes = alive-255;
+      rpm-after-125 = λ rpm hops buffer r after (e, room) w. w .answer ∙ passes _ _ (omega (arith, payload-length (SetRpm rpm) hops)) room;
+      rpm-after-126 = λ rpm hops buffer r after e w. w .answer ∙ answer-too-long _ _ (omega (arith, payload-length (SetRpm rpm) hops));
+      any-after-128 = λ command hops buffer r after h w. w .answer ∙ answer-too-long _ _ (omega (arith, payload-length command hops, sizes command));
     }

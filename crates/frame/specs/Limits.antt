@@ -1,21 +1,25 @@
 -- How many hops a command may have. Document 01, "Commands": "127 hops before Alive give 255 bytes and pass; 125 before
--- SetRpm pass; 126 before SetRpm are PayloadTooLong." `encode` returned r, and `after` is what the buffer then holds.
--- Assumes nothing.
+-- SetRpm pass; 126 before SetRpm are PayloadTooLong." Assumes nothing.
 use mathlib.Core.Path.{_≡_}
 use mathlib.Core.List.{List}
 use Prim.Native.Nat.{ℕ, _≤_}
 use lib.IntN.{ℤ}
 use lib.ListN.{length}
-use Rattle.refusals.specs.Refusals.{given, refused, payloadTooLong}
+use Rattle.refusals.specs.Refusals.{Answer, given, refused, payloadTooLong}
 use Rattle.command.specs.declared.Command.{Command}
 use Rattle.command.specs.declared.Command.the-variants.{SetRpm, Alive}
 use Rattle.frame.specs.declared.Encoded.{Encoded}
 use Rattle.frame.specs.Encode.{encoded, Encodes}
 use Rattle.frame.specs.Frame.{payloadOf}
 
-pub record HopLimits (hops buffer : List ℕ) (r : Encoded) (after : List ℕ) : Type 0 where
-  pub alive-after-127 : length hops ≡ 127 → (length (payloadOf Alive hops) ≡ 255) × (260 ≤ length buffer → Encodes Alive hops buffer r after → encoded r ≡ given 260)
-  pub rpm-after-125 : (rpm : ℤ) → length hops ≡ 125 → 260 ≤ length buffer → Encodes (SetRpm rpm) hops buffer r after → encoded r ≡ given 260
-  pub rpm-after-126 : (rpm : ℤ) → length hops ≡ 126 → Encodes (SetRpm rpm) hops buffer r after → encoded r ≡ refused payloadTooLong
+-- `encode` of the command behind any hops and into any buffer returns the answer, if these meet a condition
+abbrev pub Answers : Command → (List ℕ → List ℕ → Type 0) → Answer ℕ → Type 0
+Answers command If answer = (hops buffer : List ℕ) (r : Encoded) (after : List ℕ) → If hops buffer → Encodes command hops buffer r after → encoded r ≡ answer
+
+pub record HopLimits : Type 0 where
+  pub alive-after-127 : Answers Alive (λ hops buffer. (length hops ≡ 127) × (260 ≤ length buffer)) (given 260)
+  pub alive-bytes : (hops : List ℕ) → length hops ≡ 127 → length (payloadOf Alive hops) ≡ 255
+  pub rpm-after-125 : (rpm : ℤ) → Answers (SetRpm rpm) (λ hops buffer. (length hops ≡ 125) × (260 ≤ length buffer)) (given 260)
+  pub rpm-after-126 : (rpm : ℤ) → Answers (SetRpm rpm) (λ hops buffer. length hops ≡ 126) (refused payloadTooLong)
   -- and more than 127 before any command
-  pub any-after-128 : (command : Command) → 128 ≤ length hops → Encodes command hops buffer r after → encoded r ≡ refused payloadTooLong
+  pub any-after-128 : (command : Command) → Answers command (λ hops buffer. 128 ≤ length hops) (refused payloadTooLong)

@@ -10,9 +10,13 @@ use lib.Seq.{length-take-le}
 use Rattle.reading.specs.Reading.{Judge, Steady}
 use Rattle.reading.specs.Searching.{Search, found, nothing, sizeFound, search}
 use Rattle.reading.proofs.Search.{movedOver, restOf, search-account}
-use Rattle.line.specs.Line.{Line, fresh, top, atFront, moved, emptied, cleared, fitting, copied, feedCount, feedLine, lineAfter, nextLine, Balanced}
+use Rattle.line.specs.Line.{Line, fresh, top, atFront, moved, emptied, cleared, fitting, copied, feedCount, feedLine, lineAfter, nextLine}
 use Rattle.line.specs.Runs.{Calls, Reached, at-first, by-feed, by-reply, by-nothing}
 use Rattle.line.proofs.Figures.{held, raised-below, raised-exact}
+
+-- "fed = handed + passed + held"
+abbrev pub Balanced : Line → Type 0
+Balanced line = line .fed ≡ line .handed + line .passed + length (line .unread)
 
 -- ---- `feed`, part by part: the balance is kept, and fed was no higher before
 

@@ -6,13 +6,13 @@ use Prim.Native.Nat.{ℕ, zero, suc, _+_, _<_, _≤_}
 use native.Mathlib.Omega.{arith}
 use lib.ListN.{length, take, drop, length-append, length-drop, take-append-drop}
 use Rattle.reading.specs.Reading.{takes, notYet, Judge, Steady, Bounded, reading, repliesOf, joined}
-use Rattle.reading.specs.Lateness.{TakenIn, NoneOver}
+use Rattle.reading.specs.Lateness.{NoneOver}
 use Rattle.reading.specs.Searching.{found, nothing, search}
 use Rattle.reading.proofs.Frames.{reply-given}
 use Rattle.reading.proofs.Search.{found-fewer}
 use Rattle.reading.proofs.Searches.{Searched, afterSearch, andThen, searchTurns, searches, searches-turn, searches-rest, searches-joined, searches-reading}
-use Rattle.reading.proofs.Lateness.{given-in-time, given-stays}
-use Rattle.line.specs.Runs.{Calls, again, Nonempty, Asked, ends, gives, Run, starts, offers, recuts, Answers, a-reply, no-reply, AskingEnds, asking, Ends, all-taken, offering, Reached, at-first, by-feed, by-reply, by-nothing, GivenSoFar}
+use Rattle.reading.proofs.Lateness.{TakenIn, given-in-time, given-stays}
+use Rattle.line.specs.Runs.{Calls, again, Nonempty, Asked, ends, gives, Run, starts, offers, asks, recuts, Answers, a-reply, no-reply, AskingEnds, asking, Ends, all-taken, offering, Reached, at-first, by-feed, by-reply, by-nothing, GivenSoFar}
 
 -- What is ahead is what was not taken, and the pieces behind it.
 joined-again : (left : List ℕ) (ahead : List (List ℕ)) → joined (again left ahead) ≡ left ++ joined ahead
@@ -24,7 +24,7 @@ nonempty-again [] ahead some = some
 nonempty-again (byte ∷ left) ahead some = (omega arith, some)
 
 -- The stream is what was taken, and then what is ahead.
-pub run-front : {R : Type 0} {calls : Calls R} {Recut : Type 0} {pieces ahead : List (List ℕ)} {taken : List ℕ} {replies : List R} {s : calls .State} → Run calls Recut pieces ahead taken replies s
+pub run-front : {R : Type 0} {calls : Calls R} {Free : Type 0} {pieces ahead : List (List ℕ)} {taken : List ℕ} {replies : List R} {s : calls .State} → Run calls Free pieces ahead taken replies s
     → joined pieces ≡ taken ++ joined ahead
 run-front (starts first) = refl
 run-front (offers {ahead} {piece} {taken} {n = n} run may feeds asked) =
@@ -32,6 +32,7 @@ run-front (offers {ahead} {piece} {taken} {n = n} run may feeds asked) =
     let split : piece ++ rest ≡ take n piece ++ (drop n piece ++ rest) = ap (λ (l : List ℕ). l ++ rest) (sym (take-append-drop n piece)) ∙ append-assoc (take n piece) (drop n piece) rest in
     run-front run ∙ ap (λ (l : List ℕ). taken ++ l) (split ∙ ap (λ (l : List ℕ). take n piece ++ l) (sym (joined-again (drop n piece) ahead)))
     ∙ sym (append-assoc taken (take n piece) (joined (again (drop n piece) ahead)))
+run-front (asks may run asked) = run-front run
 run-front (recuts {taken = taken} other may run same) = run-front run ∙ ap (λ (l : List ℕ). taken ++ l) (sym same)
 
 -- What is asked of the calls, where `unread` are the bytes that a state holds unread. `next` is one search of them
@@ -77,10 +78,19 @@ module _ {R : Type 0} (judge : Judge R) (steady : Steady judge) (calls : Calls R
   asking-ends answers s = ends-in (suc (length (unread s))) s answers (omega arith)
 
 module _ {R : Type 0} (judge : Judge R) (steady : Steady judge) (calls : Calls R) (unread : calls .State → List ℕ) (faithful : Faithful judge calls unread) where
-  run-comes : {Recut : Type 0} {pieces ahead : List (List ℕ)} {taken : List ℕ} {replies : List R} {s : calls .State} → Run calls Recut pieces ahead taken replies s → Comes judge replies (unread s) taken
+  run-comes : {Free : Type 0} {pieces ahead : List (List ℕ)} {taken : List ℕ} {replies : List R} {s : calls .State} → Run calls Free pieces ahead taken replies s → Comes judge replies (unread s) taken
   unfolding searches searchTurns
   run-comes (starts first) = record { given = refl; left = faithful .fresh first }
   run-comes (recuts other may run same) = run-comes run
+  run-comes (asks {taken = taken} may run asked) =
+      let before = run-comes run in
+      let now = asked-comes judge steady calls unread (faithful .next) asked in
+      let again = ap (searches judge) (before .left ∙ sym (append-nil (searches judge taken .rest))) in
+      let both = ap (andThen (searches judge taken)) again ∙ sym (searches-joined judge steady taken []) ∙ ap (searches judge) (append-nil taken) in
+      record {
+        given = (λ i. before .given i ++ now .given i) ∙ ap (λ (q : Searched R). q .replies) both;
+        left = now .left ∙ ap (λ (q : Searched R). q .rest) both;
+      }
   run-comes (offers {piece = piece} {taken = taken} {n = n} run may feeds asked) =
       let before = run-comes run in
       let now = asked-comes judge steady calls unread (faithful .next) asked in
@@ -93,18 +103,18 @@ module _ {R : Type 0} (judge : Judge R) (steady : Steady judge) (calls : Calls R
       }
 
   -- "the replies are those of one left-to-right reading .., in order and no others": of what was taken; and what that reading leaves is unread
-  pub run-replies : {Recut : Type 0} {pieces ahead : List (List ℕ)} {taken : List ℕ} {replies : List R} {s : calls .State} → Run calls Recut pieces ahead taken replies s → replies ≡ repliesOf (reading judge taken .given)
+  pub run-replies : {Free : Type 0} {pieces ahead : List (List ℕ)} {taken : List ℕ} {replies : List R} {s : calls .State} → Run calls Free pieces ahead taken replies s → replies ≡ repliesOf (reading judge taken .given)
   run-replies {taken = taken} run = run-comes run .given ∙ searches-reading judge steady 0 taken .replies
 
-  pub run-unread : {Recut : Type 0} {pieces ahead : List (List ℕ)} {taken : List ℕ} {replies : List R} {s : calls .State} → Run calls Recut pieces ahead taken replies s → unread s ≡ reading judge taken .rest
+  pub run-unread : {Free : Type 0} {pieces ahead : List (List ℕ)} {taken : List ℕ} {replies : List R} {s : calls .State} → Run calls Free pieces ahead taken replies s → unread s ≡ reading judge taken .rest
   run-unread {taken = taken} run = run-comes run .left ∙ searches-reading judge steady 0 taken .rest
 
-  run-waits : {Recut : Type 0} {pieces ahead : List (List ℕ)} {taken : List ℕ} {replies : List R} {s : calls .State} → Run calls Recut pieces ahead taken replies s → judge (unread s) ≡ notYet
+  run-waits : {Free : Type 0} {pieces ahead : List (List ℕ)} {taken : List ℕ} {replies : List R} {s : calls .State} → Run calls Free pieces ahead taken replies s → judge (unread s) ≡ notYet
   run-waits {taken = taken} run = ap judge (run-comes run .left) ∙ searches-rest judge steady taken
 
   -- "A good frame overlapped by no earlier frame of that reading is given": the frame, good by its own n bytes, stands at p of the stream; its own last byte is taken,
   -- and bound - 1 bytes counted from its first are.
-  pub in-time : (bound : ℕ) → Bounded judge bound → {Recut : Type 0} {pieces ahead : List (List ℕ)} {taken : List ℕ} {replies : List R} {s : calls .State} → Run calls Recut pieces ahead taken replies s → (p n : ℕ) (reply : R)
+  pub in-time : (bound : ℕ) → Bounded judge bound → {Free : Type 0} {pieces ahead : List (List ℕ)} {taken : List ℕ} {replies : List R} {s : calls .State} → Run calls Free pieces ahead taken replies s → (p n : ℕ) (reply : R)
       → judge (take n (drop p (joined pieces))) ≡ takes n reply → NoneOver p (reading judge (joined pieces) .given)
       → p + n ≤ length taken → TakenIn bound p taken
       → GivenSoFar p n reply (reading judge (joined pieces) .given) replies
@@ -115,7 +125,7 @@ module _ {R : Type 0} (judge : Judge R) (steady : Steady judge) (calls : Calls R
       rw f (record { frame = given-stays judge steady taken (joined ahead) p n reply a; later = repliesOf (a .after); exactly = run-replies run ∙ reply-given a })
 
   -- An offer takes a byte or more.
-  pub takes-some : {Recut : Type 0} {pieces ahead : List (List ℕ)} {taken : List ℕ} {replies : List R} {s t : calls .State} {n : ℕ} → Run calls Recut pieces ahead taken replies s → (piece : List ℕ) → 0 < length piece → calls .Feeds s piece n t
+  pub takes-some : {Free : Type 0} {pieces ahead : List (List ℕ)} {taken : List ℕ} {replies : List R} {s t : calls .State} {n : ℕ} → Run calls Free pieces ahead taken replies s → (piece : List ℕ) → 0 < length piece → calls .Feeds s piece n t
       → 0 < n
   takes-some run piece some feeds = faithful .some (run-waits run) some feeds
 
@@ -124,15 +134,17 @@ asked-reached : {R : Type 0} {calls : Calls R} {s u : calls .State} {replies : L
 asked-reached reached (ends none) = by-nothing reached none
 asked-reached reached (gives {reply = reply} given asked) = asked-reached (by-reply reply reached given) asked
 
-pub run-reached : {R : Type 0} {calls : Calls R} {Recut : Type 0} {pieces ahead : List (List ℕ)} {taken : List ℕ} {replies : List R} {s : calls .State} → Run calls Recut pieces ahead taken replies s → Reached calls s
+pub run-reached : {R : Type 0} {calls : Calls R} {Free : Type 0} {pieces ahead : List (List ℕ)} {taken : List ℕ} {replies : List R} {s : calls .State} → Run calls Free pieces ahead taken replies s → Reached calls s
 run-reached (starts first) = at-first first
 run-reached (offers {piece = piece} {n = n} run may feeds asked) = asked-reached (by-feed piece n (run-reached run) feeds) asked
+run-reached (asks may run asked) = asked-reached (run-reached run) asked
 run-reached (recuts other may run same) = run-reached run
 
--- A run whose caller never cuts anew is one whose caller may.
+-- A run whose caller does no more than it must is one whose caller may do more.
 pub run-plain : {R : Type 0} {calls : Calls R} {pieces ahead : List (List ℕ)} {taken : List ℕ} {replies : List R} {s : calls .State} → Run calls ⊥ pieces ahead taken replies s → Run calls Unit pieces ahead taken replies s
 run-plain (starts first) = starts first
 run-plain (offers run may feeds asked) = offers (run-plain run) may feeds asked
+run-plain (asks never run asked) = absurd never
 run-plain (recuts other never run same) = absurd never
 
 -- Where asking ends there are replies that it ends with.
@@ -150,7 +162,7 @@ pub record Able {R : Type 0} (calls : Calls R) : Type 0 where
 
 module _ {R : Type 0} (judge : Judge R) (steady : Steady judge) (calls : Calls R) (unread : calls .State → List ℕ) (faithful : Faithful judge calls unread) (able : Able calls) where
   -- From any point of a run on: each offer takes a byte or more, so that fewer are ahead.
-  runs-end : (k : ℕ) (ahead : List (List ℕ)) {Recut : Type 0} {pieces : List (List ℕ)} {taken : List ℕ} {replies : List R} {s : calls .State} → Run calls Recut pieces ahead taken replies s → Nonempty ahead
+  runs-end : (k : ℕ) (ahead : List (List ℕ)) {Free : Type 0} {pieces : List (List ℕ)} {taken : List ℕ} {replies : List R} {s : calls .State} → Run calls Free pieces ahead taken replies s → Nonempty ahead
       → length (joined ahead) < k → Ends calls ahead s
   runs-end zero ahead run some h = absurd (omega arith)
   runs-end (suc k) [] run some h = all-taken
@@ -161,15 +173,15 @@ module _ {R : Type 0} (judge : Judge R) (steady : Steady judge) (calls : Calls R
       runs-end k (again (drop n piece) ahead) (offers run (able .piece a-byte) feeds asked) (nonempty-again (drop n piece) ahead others)
       (omega (arith, some, a-byte, fewer, length-append (drop n piece) (joined ahead), length-drop n piece, length-append piece (joined ahead))))
 
-  pub run-ends : {Recut : Type 0} {pieces ahead : List (List ℕ)} {taken : List ℕ} {replies : List R} {s : calls .State} → Run calls Recut pieces ahead taken replies s → Nonempty ahead → Ends calls ahead s
+  pub run-ends : {Free : Type 0} {pieces ahead : List (List ℕ)} {taken : List ℕ} {replies : List R} {s : calls .State} → Run calls Free pieces ahead taken replies s → Nonempty ahead → Ends calls ahead s
   run-ends {ahead = ahead} run some = runs-end (suc (length (joined ahead))) ahead run some (omega arith)
 
-  ended : {Recut : Type 0} {pieces ahead : List (List ℕ)} {taken : List ℕ} {replies : List R} {s : calls .State} → Run calls Recut pieces ahead taken replies s → Nonempty ahead → Ends calls ahead s
-      → (given : List R) × (u : calls .State) × Run calls Recut pieces [] (joined pieces) given u
-  ended {Recut} {pieces} {taken = taken} {replies = replies} {s = s} run some all-taken =
-      (replies, s, subst (λ (l : List ℕ). Run calls Recut pieces [] l replies s) (sym (run-front run ∙ append-nil taken)) run)
-  ended run (a-byte, others) (offering {ahead} {piece} (n, t, feeds) asks on) =
-      let asked = asked-of (asks n t feeds) in
+  ended : {Free : Type 0} {pieces ahead : List (List ℕ)} {taken : List ℕ} {replies : List R} {s : calls .State} → Run calls Free pieces ahead taken replies s → Nonempty ahead → Ends calls ahead s
+      → (given : List R) × (u : calls .State) × Run calls Free pieces [] (joined pieces) given u
+  ended {Free} {pieces} {taken = taken} {replies = replies} {s = s} run some all-taken =
+      (replies, s, subst (λ (l : List ℕ). Run calls Free pieces [] l replies s) (sym (run-front run ∙ append-nil taken)) run)
+  ended run (a-byte, others) (offering {ahead} {piece} (n, t, feeds) ending on) =
+      let asked = asked-of (ending n t feeds) in
       ended (offers run (able .piece a-byte) feeds (asked .2)) (nonempty-again (drop n piece) ahead others) (on n t (asked .1) (asked .0) feeds (asked .2))
 
   -- Every cutting into pieces with a byte has a run that takes all of it.

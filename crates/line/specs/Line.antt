@@ -2,7 +2,6 @@
 -- decoder has 512 bytes. Assumes nothing.
 use mathlib.Core.Bool.{Bool, true, false, cond}
 use mathlib.Core.List.{List, [], _++_}
-use mathlib.Core.Path.{_≡_}
 use Prim.Native.Nat.{ℕ, _+_, _-_}
 use lib.Dec.{ltb, eqb}
 use lib.ListN.{length, take}
@@ -99,7 +98,3 @@ module _ {R : Type 0} where
 
     unfoldable pub nextLine : Line → Line
     nextLine line = lineAfter (search judge (line .unread)) line
-
--- 3. The line figures: "fed = handed + passed + held"
-abbrev pub Balanced : Line → Type 0
-Balanced line = line .fed ≡ line .handed + line .passed + length (line .unread)

@@ -37,17 +37,20 @@ module _ {R : Type 0} (calls : Calls R) where
     ends : {s t : calls .State} → calls .GivesNothing s t → Asked s [] t
     gives : {s t u : calls .State} {reply : R} {replies : List R} → calls .Gives s reply t → Asked t replies u → Asked s (reply ∷ replies) u
 
-  -- The run of a cutting, `pieces`, up to some `next` that gave nothing: the pieces still ahead, the first of them
-  -- perhaps in part; the bytes taken so far; the replies so far; and the decoder then. `Recut` says whether the caller may
-  -- cut anew what is ahead
-  pub data Run (Recut : Type 0) (pieces : List (List ℕ)) : (ahead : List (List ℕ)) (taken : List ℕ) (replies : List R) → calls .State → Type 0 where
-    starts : {s : calls .State} → calls .Fresh s → Run Recut pieces pieces [] [] s
+  -- The run of a cutting, `pieces`, at its start or after some `next` that gave nothing: the pieces still ahead, the first
+  -- of them perhaps in part; the bytes taken so far; the replies so far; and the decoder then. `Free` says whether the caller
+  -- may do more than to offer each piece, and again what was not taken of it
+  pub data Run (Free : Type 0) (pieces : List (List ℕ)) : (ahead : List (List ℕ)) (taken : List ℕ) (replies : List R) → calls .State → Type 0 where
+    starts : {s : calls .State} → calls .Fresh s → Run Free pieces pieces [] [] s
     offers : {ahead : List (List ℕ)} {piece taken : List ℕ} {replies new : List R} {s t u : calls .State} {n : ℕ}
-        → Run Recut pieces (piece ∷ ahead) taken replies s → calls .Piece piece → calls .Feeds s piece n t → Asked t new u
-        → Run Recut pieces (again (drop n piece) ahead) (taken ++ take n piece) (replies ++ new) u
-    -- so what was not taken may be offered with bytes that follow it, or a part of it alone
+        → Run Free pieces (piece ∷ ahead) taken replies s → calls .Piece piece → calls .Feeds s piece n t → Asked t new u
+        → Run Free pieces (again (drop n piece) ahead) (taken ++ take n piece) (replies ++ new) u
+    -- to ask again
+    asks : {ahead : List (List ℕ)} {taken : List ℕ} {replies new : List R} {s u : calls .State}
+        → Free → Run Free pieces ahead taken replies s → Asked s new u → Run Free pieces ahead taken (replies ++ new) u
+    -- and to cut anew what is ahead: to offer what was not taken with bytes that follow it, or a part of it alone
     recuts : {ahead : List (List ℕ)} {taken : List ℕ} {replies : List R} {s : calls .State} (other : List (List ℕ))
-        → Recut → Run Recut pieces ahead taken replies s → joined other ≡ joined ahead → Run Recut pieces other taken replies s
+        → Free → Run Free pieces ahead taken replies s → joined other ≡ joined ahead → Run Free pieces other taken replies s
 
   -- what `next` may hand back
   pub data Answers (s : calls .State) : Type 0 where

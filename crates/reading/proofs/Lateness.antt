@@ -7,10 +7,14 @@ use native.Mathlib.Nat.{zero-add}
 use lib.ListN.{length, take, drop, length-drop, take-append-drop}
 use lib.Seq.{drop-drop, drop-append-le, take-append-le}
 use Rattle.reading.specs.Reading.{takes, notYet, movesOn, Judge, Given, Steady, Bounded, readingFrom, reading}
-use Rattle.reading.specs.Lateness.{TakenIn, NoneOver, GivenAt}
+use Rattle.reading.specs.Lateness.{NoneOver, GivenAt}
 use Rattle.reading.proofs.Turns.{by-reading, at-good-frame, at-noise, good-told, good-no-noise}
 use Rattle.reading.proofs.Frames.{each-front}
 use Rattle.reading.proofs.Joined.{given-front, good-stands}
+
+-- bound - 1 bytes, counted from the one at p, have been taken in with xs
+abbrev pub TakenIn : ℕ → ℕ → List ℕ → Type 0
+TakenIn bound p xs = p + (bound - 1) ≤ length xs
 
 -- at every position before p it can be told whether a good frame starts there
 abbrev Settled : {R : Type 0} → Judge R → List ℕ → ℕ → Type 0

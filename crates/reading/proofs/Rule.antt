@@ -2,7 +2,7 @@
 use mathlib.Core.Path.{_≡_, sym, ap, _∙_, subst}
 use mathlib.Core.Logic.{_↔_}
 use mathlib.Core.List.{List}
-use Prim.Native.Nat.{ℕ, _+_}
+use Prim.Native.Nat.{ℕ}
 use Rattle.reading.specs.Reading.{Judge, Reading, Steady, gives, readingFrom, Reads, at-frame, at-stop, at-other}
 use Rattle.reading.proofs.Turns.{by-reading, idle, at-good-frame, at-noise}
 

@@ -1,14 +1,9 @@
--- A good frame that no earlier frame of the reading overlaps is given once every byte before it is settled: at the latest when bound - 1 bytes counted
--- from its first, and its own last byte, have been taken in. Over any judge. Assumes nothing.
+-- The words of the lateness claim, over any judge: a frame that no earlier frame of the reading overlaps, and a frame that
+-- is given. Assumes nothing.
 use mathlib.Core.Path.{_≡_}
 use mathlib.Core.List.{List, [], _∷_, _++_}
-use Prim.Native.Nat.{ℕ, _+_, _-_, _<_, _≤_}
-use lib.ListN.{length}
+use Prim.Native.Nat.{ℕ, _+_, _<_, _≤_}
 use Rattle.reading.specs.Reading.{Given}
-
--- bound - 1 bytes, counted from the one at p, have been taken in with xs
-abbrev pub TakenIn : ℕ → ℕ → List ℕ → Type 0
-TakenIn bound p xs = p + (bound - 1) ≤ length xs
 
 module _ {R : Type 0} where
   -- P holds of every frame of the list

@@ -44,8 +44,9 @@ use Rattle.decoder.specs.Runs.{Run, PlainRun, Ends, Reached}
 
 -- "1. No call traps, hangs or relies on its caller. IncompleteData, InvalidFrame, UnknownPacket, ChecksumMismatch,
 -- BufferTooSmall and PayloadTooLong come exactly when document 01 says. A refused encode writes nothing."
--- No call traps, hangs or relies on its caller: the check of each crate proves this, because no public function has
--- a `requires`.
+-- The check of each crate proves that a function neither traps nor hangs if its `requires` holds, and no public function
+-- has a `requires` (`make test` looks). The stack is not bounded by a theorem (README.md). The claims here are about
+-- `encode` and `decode`; the contracts of `judge`, of the readers and of the writers say directly when they refuse.
 
 -- `encode` of a command behind hops returned r, and `after` is what the buffer then holds
 pub record EncodeRefuses (command : Command) (hops buffer : List ℕ) (r : Encoded) (after : List ℕ) : Type 0 where
@@ -78,7 +79,8 @@ NoneOf [] id = Unit
 NoneOf (known ∷ others) id = (id ≡ known → ⊥) × NoneOf others id
 
 -- The ways that `decode` of a slice s can go, in document 01's order. `getD s 1 0`, the length byte, is document 01's n.
--- The fields are read from byte 2 on.
+-- `drop 2 s` begins with the payload: the id, and from its place 1 on the fields. `fieldsEnd` reads them by document 01's
+-- tables (envelope/specs/Envelope.antt, fields/specs/Fields.antt) and gives the place after them, the id counted too.
 pub data Way (s : List ℕ) : Type 0 where
   no-start : length s ≤ 0 → Way s
   start-wrong : 0 < length s → (getD s 0 0 ≡ 2 → ⊥) → Way s
@@ -127,6 +129,8 @@ pub record DemandOne : Type 0 where
 -- text are proved against CRC-16/XMODEM, IEEE 754 and Unicode."
 -- Bytes, readings and refusals equal the definitions that the contracts cite (docs/PROMISES.md). That the Rust's are
 -- the same is tested, not proved (docs/DIFFERENCES.md). The checksum is the remainder of long division by definition.
+-- The division of a reading and the multiplication of a writing are `lib.Ieee`'s: the exact result, rounded by the same
+-- `round` as here a whole number. That `lib.Ieee` is IEEE 754 is part of what is believed of the kit.
 pub record DemandTwo : Type 0 where
   -- the catalogue's register gives the same sum, and the catalogue's check value is met
   pub checksum : (message : List ℕ) → registerOf message ≡ checksumOf message
@@ -150,12 +154,12 @@ pub record DemandTwo : Type 0 where
 -- of the uncut stream, in order and no others. A good frame overlapped by no earlier frame of that reading is given,
 -- however damaged the bytes before it, once 109 bytes counted from its first, or its own last byte if that is later,
 -- have been taken in and asked for."
--- `Run pieces ahead taken replies d` is that use of the decoder, up to some `next` that gave nothing, also one in the
--- middle of a piece: `pieces` is the cutting, `ahead` are the pieces still to be offered, `taken` the bytes taken in so
--- far, `replies` the replies so far, and d is the decoder then. Each call may return whatever its contract allows:
--- `Holds fresh` for `new`, `FeedIs` for `feed`, `NextIs` for `next` (decoder/specs/State.antt). `joined pieces` is the
--- uncut stream. `reading` is defined from `decode` alone. What is ahead may be cut anew at any time; in a `PlainRun` it
--- is not.
+-- `Run pieces ahead taken replies d` is that use of the decoder, at its start or after some `next` that gave nothing, also
+-- one in the middle of a piece: `pieces` is the cutting, `ahead` are the pieces still to be offered, `taken` the bytes
+-- taken in so far, `replies` the replies so far, and d is the decoder then. Each call may return whatever its contract
+-- allows: `Holds fresh` for `new`, `FeedIs` for `feed`, `NextIs` for `next` (decoder/specs/State.antt). `joined pieces` is
+-- the uncut stream. `reading` is defined from `decode` alone. The caller may also ask again, and cut anew what is ahead; in
+-- a `PlainRun` it does not.
 pub record AsRead (pieces ahead : List (List ℕ)) (taken : List ℕ) (replies : List CommandReply) (d : Decoder) : Type 0 where
   -- the stream is what is taken and then what is ahead
   pub stream : joined pieces ≡ taken ++ joined ahead
@@ -181,7 +185,8 @@ pub record DemandThree : Type 0 where
   -- Every cutting into nonempty pieces has a run that offers just them, and takes all
   pub exists : (pieces : List (List ℕ)) → Nonempty pieces → (replies : List CommandReply) × (d : Decoder) × PlainRun pieces [] (joined pieces) replies d
   pub plain : {pieces ahead : List (List ℕ)} {taken : List ℕ} {replies : List CommandReply} {d : Decoder} → PlainRun pieces ahead taken replies d → Run pieces ahead taken replies d
-  -- From any point of any run on, every call has a result, and whatever the results are, all is taken in the end
+  -- From any point of any run on, if nothing is cut anew: every call has a result, and whatever the results are, all is
+  -- taken in the end
   pub ends : {pieces ahead : List (List ℕ)} {taken : List ℕ} {replies : List CommandReply} {d : Decoder} → Run pieces ahead taken replies d → Nonempty ahead → Ends ahead d
   -- because `feed` takes a byte or more of a nonempty piece
   pub takes-some : {pieces ahead : List (List ℕ)} {taken : List ℕ} {replies : List CommandReply} {d : Decoder} → Run pieces ahead taken replies d
