@@ -104,6 +104,7 @@ fn received(start: Decoder, piece: &[u8]) -> Decoder {
         let count = fed.count;
         say(b"bytes taken: ", count as u64);
         decoder = asked(fed.decoder);
+        // Never so: `feed` takes no more than it was offered. The test is for the prover.
         if piece.len() - taken < count {
             return decoder;
         }
