@@ -15,7 +15,7 @@ use Rattle.packer.specs.Reading.{readAt, consumeAt}
 use Rattle.names.specs.Names.{nulWithin}
 use Rattle.fields.specs.Fields.{hasBit, takes, spanOf}
 use Rattle.envelope.specs.Envelope.{byteAt, masked, getValues, fwVersion, fwInfo, fieldsEnd, payloadPart, judgeSumOf, finishOf, judgeOf}
-use Rattle.envelope.specs.Longest.{LongestFrames}
+use Rattle.envelope.specs.Longest.{Longest, LongestFrames}
 use Rattle.envelope.proofs.Full.{judge-full}
 use Rattle.envelope.proofs.Good.{judge-frame}
 use Rattle.envelope.proofs.Readers.{Reads, reads-nothing}
@@ -46,24 +46,22 @@ all-bytes [] t at = omega arith
 all-bytes (x ∷ xs) t zero = ltb→lt x 256 (and-l (ltb x 256) (allBelow xs) t)
 all-bytes (x ∷ xs) t (suc at) = all-bytes xs (and-r (ltb x 256) (allBelow xs) t) at
 
+longest : {id most : ℕ} (one : List ℕ) → T (allBelow one) → getD one 2 0 ≡ id → judgeOf one ≡ given most
+    → ((s : List ℕ) (count : ℕ) → getD s 2 0 ≡ id → judgeOf s ≡ given count → count ≤ most) → Longest id most
+longest one below is e none = record { none-longer = none; one = one; bytes = all-bytes one below; its-id = is; as-long = e }
+
 pub longest-frames : LongestFrames
 unfolding
     judgeOf byteAt fieldsEnd fwVersion fwInfo getValues masked consumeAt nulWithin spanOf takes hasBit finishOf readAt beAt judgeSumOf payloadPart checksumOf remainder bringDown bitsOf bitsOfByte
 longest-frames =
     record {
       fw-version =
-          record {
-            none-longer = none-longer 104 0 reads-fw-version;
-            one = framed (replicate 3 0 ++ (filled 38 ++ (replicate 20 0 ++ (filled 38 ++ replicate 4 0)))) 48 53;
-            bytes = all-bytes _ tt;
-            its-id = refl;
-            as-long = refl;
-          };
-      fw-info = record { none-longer = none-longer 97 157 reads-fw-info; one = framed (157 ∷ replicate 3 0 ++ (filled 46 ++ filled 46)) 17 115; bytes = all-bytes _ tt; its-id = refl; as-long = refl };
-      selective = record { none-longer = none-longer 77 50 reads-selective; one = framed (50 ∷ replicate 4 255 ++ replicate 73 0) 20 121; bytes = all-bytes _ tt; its-id = refl; as-long = refl };
-      get-values = record { none-longer = none-longer 73 4 reads-values; one = framed (4 ∷ replicate 73 0) 244 83; bytes = all-bytes _ tt; its-id = refl; as-long = refl };
-      setup = record { none-longer = none-longer 73 51 reads-setup; one = framed (51 ∷ replicate 4 255 ++ replicate 69 0) 188 28; bytes = all-bytes _ tt; its-id = refl; as-long = refl };
-      stats = record { none-longer = none-longer 48 128 reads-stats; one = framed (128 ∷ replicate 4 255 ++ replicate 44 0) 222 25; bytes = all-bytes _ tt; its-id = refl; as-long = refl };
-      reset-stats = record { none-longer = none-longer 0 129 reads-nothing; one = framed (129 ∷ []) 129 169; bytes = all-bytes _ tt; its-id = refl; as-long = refl };
+          longest (framed (replicate 3 0 ++ (filled 38 ++ (replicate 20 0 ++ (filled 38 ++ replicate 4 0)))) 48 53) (tt {0}) refl refl (none-longer 104 0 reads-fw-version);
+      fw-info = longest (framed (157 ∷ replicate 3 0 ++ (filled 46 ++ filled 46)) 17 115) (tt {0}) refl refl (none-longer 97 157 reads-fw-info);
+      selective = longest (framed (50 ∷ replicate 4 255 ++ replicate 73 0) 20 121) (tt {0}) refl refl (none-longer 77 50 reads-selective);
+      get-values = longest (framed (4 ∷ replicate 73 0) 244 83) (tt {0}) refl refl (none-longer 73 4 reads-values);
+      setup = longest (framed (51 ∷ replicate 4 255 ++ replicate 69 0) 188 28) (tt {0}) refl refl (none-longer 73 51 reads-setup);
+      stats = longest (framed (128 ∷ replicate 4 255 ++ replicate 44 0) 222 25) (tt {0}) refl refl (none-longer 48 128 reads-stats);
+      reset-stats = longest (framed (129 ∷ []) 129 169) (tt {0}) refl refl (none-longer 0 129 reads-nothing);
       enough = judge-full;
     }
