@@ -13,13 +13,13 @@ use Rattle.frame.specs.Encode.{encoded, Encodes}
 use Rattle.frame.specs.Frame.{payloadOf}
 
 -- `encode` of the command behind any hops and into any buffer returns the answer, if these meet a condition
-abbrev pub Answers : Command → (List ℕ → List ℕ → Type 0) → Answer ℕ → Type 0
-Answers command If answer = (hops buffer : List ℕ) (r : Encoded) (after : List ℕ) → If hops buffer → Encodes command hops buffer r after → encoded r ≡ answer
+abbrev pub Returns : Command → (List ℕ → List ℕ → Type 0) → Answer ℕ → Type 0
+Returns command If answer = (hops buffer : List ℕ) (r : Encoded) (after : List ℕ) → If hops buffer → Encodes command hops buffer r after → encoded r ≡ answer
 
 pub record HopLimits : Type 0 where
-  pub alive-after-127 : Answers Alive (λ hops buffer. (length hops ≡ 127) × (260 ≤ length buffer)) (given 260)
+  pub alive-after-127 : Returns Alive (λ hops buffer. (length hops ≡ 127) × (260 ≤ length buffer)) (given 260)
   pub alive-bytes : (hops : List ℕ) → length hops ≡ 127 → length (payloadOf Alive hops) ≡ 255
-  pub rpm-after-125 : (rpm : ℤ) → Answers (SetRpm rpm) (λ hops buffer. (length hops ≡ 125) × (260 ≤ length buffer)) (given 260)
-  pub rpm-after-126 : (rpm : ℤ) → Answers (SetRpm rpm) (λ hops buffer. length hops ≡ 126) (refused payloadTooLong)
+  pub rpm-after-125 : (rpm : ℤ) → Returns (SetRpm rpm) (λ hops buffer. (length hops ≡ 125) × (260 ≤ length buffer)) (given 260)
+  pub rpm-after-126 : (rpm : ℤ) → Returns (SetRpm rpm) (λ hops buffer. length hops ≡ 126) (refused payloadTooLong)
   -- and more than 127 before any command
-  pub any-after-128 : (command : Command) → Answers command (λ hops buffer. 128 ≤ length hops) (refused payloadTooLong)
+  pub any-after-128 : (command : Command) → Returns command (λ hops buffer. 128 ≤ length hops) (refused payloadTooLong)
