@@ -1,4 +1,4 @@
--- A turn of each loop, and its end: what is left to do, from the register as it is, gives the answer. Assumes nothing.
+-- A turn of each loop, and its end: what is left to do, from the register as it is, gives the answer.
 use mathlib.Core.Path.{_≡_}
 use mathlib.Core.List.{List}
 use Prim.Native.Nat.{ℕ, zero, suc, _+_, _-_, _<_, _≤_}

@@ -1,5 +1,4 @@
 // CRC-16/XMODEM, bit by bit. The Rust takes it from the crate crc: `CRC16.checksum` in src/command.rs.
-// Assumes nothing.
 ghost use mathlib.Core.Path.{_≡_};
 ghost use Rattle.checksum.specs.Xmodem.{checksumOf, stepOf, byteInOf};
 
@@ -10,7 +9,9 @@ fn step(register: u16) -> u16
     (register << 1) ^ ((register >> 15) * 0x1021)
 }
 
-fn byte_in(register: u16, byte: u8) -> u16
+// The register once a byte more has gone in. The sum of a message is the register after all its bytes,
+// from 0: for a message whose bytes stand in no slice.
+pub fn byte_in(register: u16, byte: u8) -> u16
     ensures { λ r. ⌜ r ≡ byteInOf register byte ⌝ }
 {
     let mut mixed = register ^ ((byte as u16) << 8);

@@ -1,23 +1,22 @@
 // Plain commands to a VESC motor controller, as bytes of a payload. Ports the first half of src/command.rs without
-// `encode`: ids, masks, commands and `pack_into`; document 01, "Commands". Assumes nothing.
+// `encode`: ids, masks, commands and `pack_into`; document 01, "Commands".
 ghost use mathlib.Core.Path.{_≡_};
-ghost use Prim.Native.Nat.{_+_, _≤_};
-ghost use lib.ListN.{length, drop, getD};
-ghost use Rattle.packer.specs.Writing.{Packs};
-ghost use Rattle.command.specs.Commands.{bytesOf, sizeOf};
+ghost use Prim.Native.Nat.{_≤_};
+ghost use Rattle.floats.specs.Numbers.{timesScale};
+ghost use Rattle.packer.specs.Packing.{PackIs};
+ghost use Rattle.command.specs.Commands.{flagByte, wholeNumber, PartsIs, bytesOf, sizeOf};
+use format::CommandId;
 use packer::Packed;
 use refusals::EncodeError;
 
-mod ids;
 mod masks;
 
-pub use ids::CommandId;
 pub use masks::StatsMask;
 pub use masks::ValuesMask;
 pub use masks::ValuesSetupMask;
 
 // Commands that can be sent to a VESC controller. The Rust's ForwardCan is not among them: the controllers
-// that a command is forwarded through are given to `frame::encode` beside it.
+// that a command is forwarded through are given to `encode::encode` beside it.
 pub enum Command {
     // Requests firmware version information.
     FwVersion,
@@ -59,103 +58,107 @@ pub enum Command {
     MotorEstop(u16),
 }
 
+// A plain command as it is written: its id, and a number of `width` bytes.
+pub struct Parts {
+    pub id: u8,
+    pub width: usize,
+    pub number: u32,
+}
+
+fn sent(id: u8, width: usize, number: u32) -> Parts
+    ensures { λ r. ⌜ (r .id ≡ id) × (r .width ≡ width) × (r .number ≡ number) ⌝ }
+{
+    Parts { id, width, number }
+}
+
+// A flag as 0 or 1.
+fn flag(set: bool) -> u32
+    ensures { λ r. ⌜ (r ≡ flagByte set) × (r ≤ 1) ⌝ }
+{
+    if set { 1 } else { 0 }
+}
+
+// A value times its scale, as the number that is sent.
+fn scaled(value: f32, scale: f32) -> u32
+    ensures { λ r. ⌜ r ≡ wholeNumber (timesScale value scale) ⌝ }
+{
+    packer::as_u32(floats::unscaled(value, scale))
+}
+
+// The parts of a plain command: the one place where each has its id, its width and its number. Shutdown's two
+// flags are a byte each of one number.
+pub fn parts_of(command: Command) -> Parts
+    ensures { λ r. ⌜ PartsIs command r ⌝ }
+{
+    match command {
+        Command::FwVersion => sent(CommandId::FwVersion as u8, 0, 0),
+        Command::GetValues => sent(CommandId::GetValues as u8, 0, 0),
+        Command::SetDuty(duty) => sent(CommandId::SetDuty as u8, 4, scaled(duty, 100000.0)),
+        Command::SetCurrent(current) => sent(
+            CommandId::SetCurrent as u8,
+            4,
+            scaled(current, 1000.0),
+        ),
+        Command::SetCurrentBrake(current) => sent(
+            CommandId::SetCurrentBrake as u8,
+            4,
+            scaled(current, 1000.0),
+        ),
+        Command::SetRpm(rpm) => sent(CommandId::SetRpm as u8, 4, packer::as_u32(rpm)),
+        Command::SetPos(position) => sent(CommandId::SetPos as u8, 4, scaled(position, 1000000.0)),
+        Command::SetHandbrake(current) => sent(
+            CommandId::SetHandbrake as u8,
+            4,
+            scaled(current, 1000.0),
+        ),
+        Command::Reboot => sent(CommandId::Reboot as u8, 0, 0),
+        Command::Alive => sent(CommandId::Alive as u8, 0, 0),
+        Command::GetValuesSelective(mask) => sent(CommandId::GetValuesSelective as u8, 4, mask),
+        Command::GetValuesSetupSelective(mask) => sent(
+            CommandId::GetValuesSetupSelective as u8,
+            4,
+            mask,
+        ),
+        Command::SetCurrentRel(current_rel) => sent(
+            CommandId::SetCurrentRel as u8,
+            4,
+            scaled(current_rel, 100000.0),
+        ),
+        Command::SetOdometer(odometer) => sent(CommandId::SetOdometer as u8, 4, odometer),
+        Command::GetStats(mask) => sent(CommandId::GetStats as u8, 2, mask as u32),
+        Command::ResetStats(ack) => sent(CommandId::ResetStats as u8, 1, flag(ack)),
+        Command::Shutdown(force, restart) => sent(
+            CommandId::Shutdown as u8,
+            2,
+            flag(force) * 256 + flag(restart),
+        ),
+        Command::FwInfo => sent(CommandId::FwInfo as u8, 0, 0),
+        Command::MotorEstop(time) => sent(CommandId::MotorEstop as u8, 2, time as u32),
+    }
+}
+
 // How many bytes a plain command has in a payload.
 pub fn command_len(command: Command) -> usize
     ensures { λ r. ⌜ r ≡ sizeOf command ⌝ }
 {
-    match command {
-        Command::FwVersion => 1,
-        Command::GetValues => 1,
-        Command::SetDuty(_) => 5,
-        Command::SetCurrent(_) => 5,
-        Command::SetCurrentBrake(_) => 5,
-        Command::SetRpm(_) => 5,
-        Command::SetPos(_) => 5,
-        Command::SetHandbrake(_) => 5,
-        Command::Reboot => 1,
-        Command::Alive => 1,
-        Command::GetValuesSelective(_) => 5,
-        Command::GetValuesSetupSelective(_) => 5,
-        Command::SetCurrentRel(_) => 5,
-        Command::SetOdometer(_) => 5,
-        Command::GetStats(_) => 3,
-        Command::ResetStats(_) => 2,
-        Command::Shutdown(_, _) => 3,
-        Command::FwInfo => 1,
-        Command::MotorEstop(_) => 3,
-    }
-}
-
-fn command_id(command: Command) -> u8
-    ensures { λ r. ⌜ r ≡ getD (bytesOf command) 0 0 ⌝ }
-{
-    match command {
-        Command::FwVersion => CommandId::FwVersion as u8,
-        Command::GetValues => CommandId::GetValues as u8,
-        Command::SetDuty(_) => CommandId::SetDuty as u8,
-        Command::SetCurrent(_) => CommandId::SetCurrent as u8,
-        Command::SetCurrentBrake(_) => CommandId::SetCurrentBrake as u8,
-        Command::SetRpm(_) => CommandId::SetRpm as u8,
-        Command::SetPos(_) => CommandId::SetPos as u8,
-        Command::SetHandbrake(_) => CommandId::SetHandbrake as u8,
-        Command::Reboot => CommandId::Reboot as u8,
-        Command::Alive => CommandId::Alive as u8,
-        Command::GetValuesSelective(_) => CommandId::GetValuesSelective as u8,
-        Command::GetValuesSetupSelective(_) => CommandId::GetValuesSetupSelective as u8,
-        Command::SetCurrentRel(_) => CommandId::SetCurrentRel as u8,
-        Command::SetOdometer(_) => CommandId::SetOdometer as u8,
-        Command::GetStats(_) => CommandId::GetStats as u8,
-        Command::ResetStats(_) => CommandId::ResetStats as u8,
-        Command::Shutdown(_, _) => CommandId::Shutdown as u8,
-        Command::FwInfo => CommandId::FwInfo as u8,
-        Command::MotorEstop(_) => CommandId::MotorEstop as u8,
-    }
-}
-
-// What a plain command has after its id, for where there is room.
-fn pack_value(command: Command, buf: &mut [u8], pos: usize) -> Packed
-    requires { ⌜ pos + length (drop 1 (bytesOf command)) ≤ length (now buf) ⌝ }
-    ensures { λ r. ⌜ Packs (drop 1 (bytesOf command)) (now (buf .entry)) pos r (now (buf .exit)) ⌝ }
-{
-    match command {
-        Command::FwVersion => Packed::Next(pos),
-        Command::GetValues => Packed::Next(pos),
-        Command::SetDuty(duty) => packer::pack_f32(buf, pos, duty, 100000.0),
-        Command::SetCurrent(current) => packer::pack_f32(buf, pos, current, 1000.0),
-        Command::SetCurrentBrake(current) => packer::pack_f32(buf, pos, current, 1000.0),
-        Command::SetRpm(rpm) => packer::pack_i32(buf, pos, rpm),
-        Command::SetPos(position) => packer::pack_f32(buf, pos, position, 1000000.0),
-        Command::SetHandbrake(current) => packer::pack_f32(buf, pos, current, 1000.0),
-        Command::Reboot => Packed::Next(pos),
-        Command::Alive => Packed::Next(pos),
-        Command::GetValuesSelective(mask) => packer::pack_u32(buf, pos, mask),
-        Command::GetValuesSetupSelective(mask) => packer::pack_u32(buf, pos, mask),
-        Command::SetCurrentRel(current_rel) => packer::pack_f32(buf, pos, current_rel, 100000.0),
-        Command::SetOdometer(odometer) => packer::pack_u32(buf, pos, odometer),
-        Command::GetStats(mask) => packer::pack_u16(buf, pos, mask),
-        Command::ResetStats(ack) => packer::pack_u8(buf, pos, ack as u8),
-        Command::Shutdown(force, restart) => {
-            packer::pack_u8(buf, pos, force as u8);
-            packer::pack_u8(buf, pos + 1, restart as u8)
-        }
-        Command::FwInfo => Packed::Next(pos),
-        Command::MotorEstop(ignore_time_ms) => packer::pack_u16(buf, pos, ignore_time_ms),
-    }
+    let parts = parts_of(command);
+    1 + parts.width
 }
 
 // A plain command's bytes at a position, its id first. Ports `Command::pack_into`, which leaves the id behind
 // where its value does not fit; this one then writes nothing.
 pub fn pack_into(command: Command, buf: &mut [u8], pos: usize) -> Packed
-    ensures { λ r. ⌜ Packs (bytesOf command) (now (buf .entry)) pos r (now (buf .exit)) ⌝ }
+    ensures { λ r. ⌜ PackIs (bytesOf command) (now (buf .entry)) pos r (now (buf .exit)) ⌝ }
 {
+    let parts = parts_of(command);
+    let width = parts.width;
     let room = buf.len();
-    let len = command_len(command);
-    if room < len {
+    if room <= width {
         return Packed::Refused(EncodeError::BufferTooSmall);
     }
-    if room - len < pos {
+    if room - width - 1 < pos {
         return Packed::Refused(EncodeError::BufferTooSmall);
     }
-    packer::pack_u8(buf, pos, command_id(command));
-    pack_value(command, buf, pos + 1)
+    packer::pack_u8(buf, pos, parts.id);
+    packer::pack_be(buf, pos + 1, width, parts.number)
 }

@@ -1,5 +1,9 @@
 // Masks: which telemetry fields a selective query asks for. Ports the three bitflags of src/command.rs, each as constants that
-// a caller joins by `|`. Assumes nothing.
+// a caller joins by `|`.
+ghost use mathlib.Core.List.{_++_};
+ghost use mathlib.Core.Path.{_≡_};
+ghost use Rattle.format.specs.Format.{valuesBits, setupBits, statsBits};
+ghost use Rattle.command.specs.Masks.{powers};
 
 // The fields that `Command::GetValuesSelective` asks for.
 pub struct ValuesMask;
@@ -124,4 +128,67 @@ impl StatsMask {
     pub const TEMP_MOTOR_MAX: u16 = 1 << 9;
 
     pub const COUNT_TIME: u16 = 1 << 10;
+}
+
+// Every mask, in the order of its bits: the test that none is missing and none stands twice.
+fn each() -> [u32; format::MASK_BITS]
+    ensures { λ r. ⌜ r ≡ powers valuesBits ++ (powers setupBits ++ powers statsBits) ⌝ }
+{
+    [
+        ValuesMask::TEMP_MOSFET,
+        ValuesMask::TEMP_MOTOR,
+        ValuesMask::AVG_CURRENT_MOTOR,
+        ValuesMask::AVG_CURRENT_INPUT,
+        ValuesMask::AVG_CURRENT_D,
+        ValuesMask::AVG_CURRENT_Q,
+        ValuesMask::DUTY_CYCLE,
+        ValuesMask::RPM,
+        ValuesMask::VOLTAGE_IN,
+        ValuesMask::AMP_HOURS,
+        ValuesMask::AMP_HOURS_CHARGED,
+        ValuesMask::WATT_HOURS,
+        ValuesMask::WATT_HOURS_CHARGED,
+        ValuesMask::TACHOMETER,
+        ValuesMask::TACHOMETER_ABS,
+        ValuesMask::FAULT_CODE,
+        ValuesMask::PID_POS,
+        ValuesMask::CONTROLLER_ID,
+        ValuesMask::TEMP_MOSFET_ALL,
+        ValuesMask::AVG_VOLTAGE_D,
+        ValuesMask::AVG_VOLTAGE_Q,
+        ValuesMask::STATUS,
+        ValuesSetupMask::TEMP_MOSFET,
+        ValuesSetupMask::TEMP_MOTOR,
+        ValuesSetupMask::AVG_CURRENT_MOTOR,
+        ValuesSetupMask::AVG_CURRENT_INPUT,
+        ValuesSetupMask::DUTY_CYCLE,
+        ValuesSetupMask::RPM,
+        ValuesSetupMask::SPEED,
+        ValuesSetupMask::VOLTAGE_IN,
+        ValuesSetupMask::BATTERY_LEVEL,
+        ValuesSetupMask::AMP_HOURS,
+        ValuesSetupMask::AMP_HOURS_CHARGED,
+        ValuesSetupMask::WATT_HOURS,
+        ValuesSetupMask::WATT_HOURS_CHARGED,
+        ValuesSetupMask::DISTANCE,
+        ValuesSetupMask::DISTANCE_ABS,
+        ValuesSetupMask::PID_POS,
+        ValuesSetupMask::FAULT_CODE,
+        ValuesSetupMask::CONTROLLER_ID,
+        ValuesSetupMask::NUM_VESCS,
+        ValuesSetupMask::WATT_HOURS_BATTERY_LEFT,
+        ValuesSetupMask::ODOMETER,
+        ValuesSetupMask::UPTIME_MS,
+        StatsMask::SPEED_AVG as u32,
+        StatsMask::SPEED_MAX as u32,
+        StatsMask::POWER_AVG as u32,
+        StatsMask::POWER_MAX as u32,
+        StatsMask::CURRENT_AVG as u32,
+        StatsMask::CURRENT_MAX as u32,
+        StatsMask::TEMP_MOSFET_AVG as u32,
+        StatsMask::TEMP_MOSFET_MAX as u32,
+        StatsMask::TEMP_MOTOR_AVG as u32,
+        StatsMask::TEMP_MOTOR_MAX as u32,
+        StatsMask::COUNT_TIME as u32,
+    ]
 }

@@ -1,52 +1,52 @@
--- Demand 3 and the line figures, of every run of the decoder. The words are in `vesc/specs/Demands.antt`; crate `line` shows the same over any
--- decoder that loses nothing. Here it is said of whole `CommandReply` values, with document 01's 110 bytes. Assumes nothing.
+-- Demand 3 and the line figures, of every run of the decoder. The words are in `vesc/specs/Demands.antt`; crate `buffer` shows the same over any
+-- decoder that loses nothing. Here it is said of whole `CommandReply` values, with document 01's 110 bytes.
 use mathlib.Core.Path.{_≡_, sym, ap, _∙_}
 use mathlib.Core.List.{List, [], append-nil}
 use Prim.Native.Nat.{ℕ, _+_, _<_, _≤_}
 use lib.ListN.{length, take, drop}
-use Rattle.reading.specs.Reading.{takes, reading, repliesOf, joined}
-use Rattle.reading.specs.Lateness.{NoneOver}
-use Rattle.line.specs.Line.{top}
-use Rattle.line.specs.Runs.{Nonempty, GivenSoFar}
-use Rattle.line.proofs.Runs as any-decoder
-use Rattle.line.proofs.Balance as any-calls
+use Rattle.stream.specs.Reading.{good, readAll, repliesOf, joined}
+use Rattle.stream.specs.Lateness.{NoneOver}
+use Rattle.buffer.specs.Buffer.{top}
+use Rattle.buffer.specs.Runs.{Nonempty, GivenSoFar}
+use Rattle.buffer.proofs.Runs as any-decoder
+use Rattle.buffer.proofs.Balance as any-calls
 use Rattle.reply.specs.declared.CommandReply.{CommandReply}
 use Rattle.decoder.specs.declared.Decoder.{Decoder}
 use Rattle.decoder.specs.declared.Fed.{Fed}
 use Rattle.decoder.specs.declared.Figures.{Figures}
-use Rattle.decoder.specs.Frames.{frames}
-use Rattle.decoder.specs.State.{lineOf, figuresOf, FeedIs}
+use Rattle.decoder.specs.Judge.{decodeJudge}
+use Rattle.decoder.specs.State.{bufferOf, figuresOf, FeedIs}
 use Rattle.decoder.specs.Runs.{calls, Run, PlainRun, Ends, Reached}
-use Rattle.decoder.proofs.Judging.{frames-steady, frames-bounded}
+use Rattle.decoder.proofs.Judging.{decode-steady, decode-bounded}
 use Rattle.decoder.proofs.Runs.{unread, faithful, able, balancing}
 
 module _ {pieces ahead : List (List ℕ)} {taken : List ℕ} {replies : List CommandReply} {d : Decoder} (run : Run pieces ahead taken replies d) where
-  pub run-replies : replies ≡ repliesOf (reading frames taken .given)
-  run-replies = any-decoder.run-replies frames frames-steady calls unread faithful run
+  pub run-replies : replies ≡ repliesOf (readAll decodeJudge taken .frames)
+  run-replies = any-decoder.run-replies decodeJudge decode-steady calls unread faithful run
 
-  pub run-unread : lineOf d .unread ≡ reading frames taken .rest
-  run-unread = any-decoder.run-unread frames frames-steady calls unread faithful run
+  pub run-unread : bufferOf d .unread ≡ readAll decodeJudge taken .rest
+  run-unread = any-decoder.run-unread decodeJudge decode-steady calls unread faithful run
 
   pub in-time : (p n : ℕ) (reply : CommandReply)
-      → frames (take n (drop p (joined pieces))) ≡ takes n reply → NoneOver p (reading frames (joined pieces) .given)
+      → decodeJudge (take n (drop p (joined pieces))) ≡ good n reply → NoneOver p (readAll decodeJudge (joined pieces) .frames)
       → p + n ≤ length taken → p + 109 ≤ length taken
-      → GivenSoFar p n reply (reading frames (joined pieces) .given) replies
-  in-time = any-decoder.in-time frames frames-steady calls unread faithful 110 frames-bounded run
+      → GivenSoFar p n reply (readAll decodeJudge (joined pieces) .frames) replies
+  in-time = any-decoder.in-time decodeJudge decode-steady calls unread faithful run 110 decode-bounded
 
   pub takes-some : (piece : List ℕ) (fed : Fed) → 0 < length piece → FeedIs d piece fed → 0 < fed .count
-  takes-some piece fed some is = any-decoder.takes-some frames frames-steady calls unread faithful run piece some is
+  takes-some piece fed some is = any-decoder.takes-some decodeJudge decode-steady calls unread faithful run piece some is
 
   pub ends : Nonempty ahead → Ends ahead d
-  ends = any-decoder.run-ends frames frames-steady calls unread faithful able run
+  ends = any-decoder.run-ends decodeJudge decode-steady calls unread faithful able run
 
 -- "for every stream and every such cutting the replies are those of one left-to-right reading of the uncut stream"
 pub whole-reading : {pieces : List (List ℕ)} {taken : List ℕ} {replies : List CommandReply} {d : Decoder} → Run pieces [] taken replies d
-    → replies ≡ repliesOf (reading frames (joined pieces) .given)
-whole-reading {taken = taken} run = run-replies run ∙ ap (λ (l : List ℕ). repliesOf (reading frames l .given)) (sym (any-decoder.run-front run ∙ append-nil taken))
+    → replies ≡ repliesOf (readAll decodeJudge (joined pieces) .frames)
+whole-reading {taken = taken} run = run-replies run ∙ ap (λ (l : List ℕ). repliesOf (readAll decodeJudge l .frames)) (sym (any-decoder.run-front run ∙ append-nil taken))
 
 pub runs-whole : (pieces : List (List ℕ)) → Nonempty pieces → (replies : List CommandReply) × (d : Decoder) × PlainRun pieces [] (joined pieces) replies d
-runs-whole = any-decoder.runs-whole frames frames-steady calls unread faithful able
+runs-whole = any-decoder.runs-whole decodeJudge decode-steady calls unread faithful able
 
-pub balance : {d : Decoder} → Reached d → (figures : Figures) → figures ≡ figuresOf (lineOf d) → figures .fed < top
+pub balance : {d : Decoder} → Reached d → (figures : Figures) → figures ≡ figuresOf (bufferOf d) → figures .fed < top
     → figures .fed ≡ figures .handed + figures .passed + figures .held
-balance reached figures is = rw is (any-calls.reached-balance calls lineOf balancing reached)
+balance reached figures is = rw is (any-calls.reached-balance calls bufferOf balancing reached)

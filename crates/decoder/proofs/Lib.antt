@@ -1,4 +1,3 @@
-pub mod Copying
 pub mod States
 pub mod Judging
 pub mod Seeking

@@ -1,73 +1,57 @@
--- The line that a decoder holds, by its fields; and after each part of `feed`. Assumes nothing.
+-- The buffer that a decoder holds, by its fields; and after each part of `feed`.
 use mathlib.Core.Path.{_≡_, sym, ap, _∙_}
-use mathlib.Core.List.{List, _++_}
+use mathlib.Core.List.{List}
 use Prim.Native.Nat.{ℕ, _+_, _-_, _<_, _≤_}
 use native.Mathlib.Omega.{arith}
-use native.Mathlib.Nat.{sub-zero, zero-add}
 use borrow.Author.Tests.{lt-ltb, le-ltb}
-use lib.ListN.{length, take, drop, length-append, length-drop}
-use lib.Seq.{paste, take-paste, length-paste, length-take-le, take-at, drop-append-le}
-use Rattle.line.specs.Line.{Line, fresh, atMost, raised, moved, cleared, fitting, copied}
-use Rattle.line.proofs.Figures.{held}
-use Rattle.line.proofs.Feeding.{line-same, moved-when, moved-not, cleared-when, cleared-not}
-use Rattle.envelope.proofs.Readers.{drop-take}
+use lib.ListN.{length, take, drop, length-drop}
+use lib.Seq.{paste, length-paste, slice, length-slice}
+use Rattle.buffer.specs.Buffer.{Buffer, fresh, atMost, raised, moved, cleared, fitting, copied}
+use Rattle.buffer.proofs.Figures.{capped}
+use Rattle.buffer.proofs.Copying.{moved-slice, copied-slice}
+use Rattle.buffer.proofs.Feeding.{buffer-same, moved-when, moved-not, cleared-when, cleared-not}
+use Rattle.names.proofs.Prefix.{drop-take}
 use Rattle.decoder.specs.declared.Decoder.{Decoder}
-use Rattle.decoder.specs.State.{lineOf, fieldsLine, Sound, Holds}
+use Rattle.decoder.specs.State.{bufferOf, fieldsBuffer, Sound, BufferIs}
 
 -- ---- by the tests that a program makes
 
-pub past-end-fresh : (d : Decoder) → 512 < d .wpos → lineOf d ≡ fresh
-unfolding lineOf
+pub past-end-fresh : (d : Decoder) → 512 < d .wpos → bufferOf d ≡ fresh
+unfolding bufferOf
 past-end-fresh d h = simp (lt-ltb _ _ h)
 
-pub past-write-fresh : (d : Decoder) → d .wpos ≤ 512 → d .wpos < d .rpos → lineOf d ≡ fresh
-unfolding lineOf
+pub past-write-fresh : (d : Decoder) → d .wpos ≤ 512 → d .wpos < d .rpos → bufferOf d ≡ fresh
+unfolding bufferOf
 past-write-fresh d h k = simp (le-ltb _ _ h, lt-ltb _ _ k)
 
-pub sound-line : (d : Decoder) → Sound d → lineOf d ≡ fieldsLine d
-unfolding lineOf
-sound-line d s = simp (le-ltb _ _ (s .high), le-ltb _ _ (s .low))
+pub sound-buffer : (d : Decoder) → Sound d → bufferOf d ≡ fieldsBuffer d
+unfolding bufferOf
+sound-buffer d s = simp (le-ltb _ _ (s .high), le-ltb _ _ (s .low))
 
--- A sound decoder holds the line that its fields say.
-pub holds : (line : Line) (d : Decoder) → Sound d → fieldsLine d .unread ≡ line .unread → d .wpos ≡ line .wpos → d .fed ≡ line .fed → d .handed ≡ line .handed
-    → d .passed ≡ line .passed → Holds line d
-holds line d s u w f h p = record { is = sound-line d s ∙ line-same (fieldsLine d) line u w f h p; sound = s }
-
--- ---- lists
+-- A sound decoder holds the buffer that its fields say.
+pub holds : (buffer : Buffer) (d : Decoder) → Sound d → fieldsBuffer d .unread ≡ buffer .unread → d .wpos ≡ buffer .wpos → d .fed ≡ buffer .fed → d .handed ≡ buffer .handed
+    → d .passed ≡ buffer .passed → BufferIs buffer d
+holds buffer d s u w f h p = record { is = sound-buffer d s ∙ buffer-same (fieldsBuffer d) buffer u w f h p; sound = s }
 
 -- how many bytes are unread
-pub unread-length : (b : List ℕ) (r w : ℕ) → w ≤ length b → length (take (w - r) (drop r b)) ≡ w - r
-unread-length b r w h = length-take-le (w - r) (drop r b) (simp length-drop (omega arith))
+pub unread-length : (d : Decoder) → Sound d → length (fieldsBuffer d .unread) ≡ d .wpos - d .rpos
+unread-length d s = length-slice (d .rpos) (d .wpos) (d .buf) (omega (arith, s .high, s .long))
 
--- the unread bytes after they moved to the front
-moved-unread : (b : List ℕ) (r k : ℕ) → r + k ≤ length b → take (k - 0) (drop 0 (paste b 0 (drop r b) k)) ≡ take k (drop r b)
-moved-unread b r k h =
-    ap (λ (n : ℕ). take n (paste b 0 (drop r b) k)) (sub-zero k ∙ sym (zero-add k))
-    ∙ take-paste b 0 (drop r b) k (omega arith) (simp length-drop (omega arith))
-
--- the unread bytes after n bytes of s were put at w
-put-unread : (b s : List ℕ) (r w n : ℕ) → r ≤ w → w + n ≤ length b → n ≤ length s → take (w + n - r) (drop r (paste b w s n)) ≡ take (w - r) (drop r b) ++ take n s
-put-unread b s r w n hr hw hn =
-    let h : r ≤ length (take w b) = rw (length-take-le w b (omega arith)) hr in
-    let h2 : r ≤ length (take w b ++ take n s) = simp length-append (omega arith) in
-    let m : drop r (take w b ++ take n s) ≡ take (w - r) (drop r b) ++ take n s =
-    drop-append-le r (take w b) (take n s) h ∙ ap (λ (x : List ℕ). x ++ take n s) (drop-take r w b) in
-    let k : length (take (w - r) (drop r b) ++ take n s) ≡ w + n - r =
-    length-append (take (w - r) (drop r b)) (take n s) ∙ (rw (unread-length b r w (omega arith), length-take-le n s hn) (omega arith)) in
-    ap (take (w + n - r)) (drop-append-le r (take w b ++ take n s) (drop (w + n) b) h2 ∙ ap (λ (x : List ℕ). x ++ drop (w + n) b) m)
-    ∙ take-at (take (w - r) (drop r b) ++ take n s) (drop (w + n) b) (w + n - r) k
+-- the unread bytes, as they are lent
+pub lent-unread : (d : Decoder) → take (d .wpos - d .rpos) (drop (d .rpos) (d .buf)) ≡ fieldsBuffer d .unread
+lent-unread d = sym (drop-take (d .rpos) (d .wpos) (d .buf))
 
 -- ---- the parts of `feed`
 
 module _ (d e : Decoder) (s : Sound d) where
   -- unread bytes moved to the front
   pub moved-holds : (n : ℕ) → 512 - d .wpos < n → e .buf ≡ paste (d .buf) 0 (drop (d .rpos) (d .buf)) (d .wpos - d .rpos) → e .rpos ≡ 0
-      → e .wpos ≡ d .wpos - d .rpos → e .fed ≡ d .fed → e .handed ≡ d .handed → e .passed ≡ d .passed → Holds (moved n (lineOf d)) e
+      → e .wpos ≡ d .wpos - d .rpos → e .fed ≡ d .fed → e .handed ≡ d .handed → e .passed ≡ d .passed → BufferIs (moved n (bufferOf d)) e
   moved-holds n h eb er ew ef eh ep =
       let lo = s .low in
       let hi = s .high in
       let lg = s .long in
-      rw (sound-line d s, moved-when n (fieldsLine d) h)
+      rw (sound-buffer d s, moved-when n (fieldsBuffer d) h)
       (holds _ e
       (record {
         low = omega arith;
@@ -75,62 +59,62 @@ module _ (d e : Decoder) (s : Sound d) where
         long =
             ap length eb ∙ length-paste (d .buf) 0 (drop (d .rpos) (d .buf)) (d .wpos - d .rpos) (omega arith) (simp length-drop (omega arith)) ∙ lg;
       })
-      ((λ i. take (ew i - er i) (drop (er i) (eb i))) ∙ moved-unread (d .buf) (d .rpos) (d .wpos - d .rpos) (omega arith))
-      (ew ∙ sym (unread-length (d .buf) (d .rpos) (d .wpos) (omega arith)))
+      ((λ i. slice (er i) (ew i) (eb i)) ∙ moved-slice (d .buf) (d .rpos) (d .wpos) lo (omega arith) ∙ lent-unread d)
+      (ew ∙ sym (unread-length d s))
       ef
       eh
       ep)
 
   -- everything unread cleared
   pub cleared-holds : d .wpos ≡ 512 → e .buf ≡ d .buf → e .rpos ≡ 0 → e .wpos ≡ 0 → e .fed ≡ d .fed → e .handed ≡ d .handed
-      → e .passed ≡ raised (d .passed) (d .wpos - d .rpos) → Holds (cleared (lineOf d)) e
+      → e .passed ≡ raised (d .passed) (d .wpos - d .rpos) → BufferIs (cleared (bufferOf d)) e
   cleared-holds h eb er ew ef eh ep =
-      rw (sound-line d s, cleared-when (fieldsLine d) h)
+      rw (sound-buffer d s, cleared-when (fieldsBuffer d) h)
       (holds _ e (record { low = omega arith; high = omega arith; long = ap length eb ∙ s .long })
-      (λ i. take (ew i - er i) (drop (er i) (eb i)))
+      (λ i. slice (er i) (ew i) (eb i))
       ew
       ef
       eh
-      (ep ∙ ap (raised (d .passed)) (sym (unread-length (d .buf) (d .rpos) (d .wpos) (omega (arith, s .high, s .long))))))
+      (ep ∙ ap (raised (d .passed)) (sym (unread-length d s))))
 
   -- n bytes of the piece copied
   pub copied-holds : (piece : List ℕ) (n : ℕ) → n ≡ atMost (512 - d .wpos) (length piece) → e .buf ≡ paste (d .buf) (d .wpos) piece n → e .rpos ≡ d .rpos
-      → e .wpos ≡ d .wpos + n → e .fed ≡ raised (d .fed) n → e .handed ≡ d .handed → e .passed ≡ d .passed → Holds (copied piece n (lineOf d)) e
+      → e .wpos ≡ d .wpos + n → e .fed ≡ raised (d .fed) n → e .handed ≡ d .handed → e .passed ≡ d .passed → BufferIs (copied piece n (bufferOf d)) e
   unfolding copied
   copied-holds piece n c eb er ew ef eh ep =
       let lo = s .low in
       let hi = s .high in
       let lg = s .long in
-      let m = held (512 - d .wpos) (length piece) in
+      let m = capped (512 - d .wpos) (length piece) in
       let fits : n ≤ 512 - d .wpos = rw c (m .low) in
       let most : n ≤ length piece = rw c (m .high) in
-      rw (sound-line d s)
+      rw (sound-buffer d s)
       (holds _ e
       (record {
         low = omega arith;
         high = omega arith;
         long = ap length eb ∙ length-paste (d .buf) (d .wpos) piece n (omega arith) most ∙ lg;
       })
-      ((λ i. take (ew i - er i) (drop (er i) (eb i))) ∙ put-unread (d .buf) piece (d .rpos) (d .wpos) n lo (omega arith) most)
+      ((λ i. slice (er i) (ew i) (eb i)) ∙ copied-slice (d .buf) (d .rpos) (d .wpos) lo piece n (omega arith) most)
       ew
       ef
       eh
       ep)
 
 -- where nothing is to be moved or cleared
-pub unmoved-holds : (d : Decoder) (n : ℕ) → Sound d → n ≤ 512 - d .wpos → Holds (moved n (lineOf d)) d
-unmoved-holds d n s h = record { is = sound-line d s ∙ sym (ap (moved n) (sound-line d s) ∙ moved-not n (fieldsLine d) h); sound = s }
+pub unmoved-holds : (d : Decoder) (n : ℕ) → Sound d → n ≤ 512 - d .wpos → BufferIs (moved n (bufferOf d)) d
+unmoved-holds d n s h = record { is = sound-buffer d s ∙ sym (ap (moved n) (sound-buffer d s) ∙ moved-not n (fieldsBuffer d) h); sound = s }
 
-pub uncleared-holds : (d : Decoder) → Sound d → (d .wpos ≡ 512 → ⊥) → Holds (cleared (lineOf d)) d
-uncleared-holds d s h = record { is = sound-line d s ∙ sym (ap cleared (sound-line d s) ∙ cleared-not (fieldsLine d) h); sound = s }
+pub uncleared-holds : (d : Decoder) → Sound d → (d .wpos ≡ 512 → ⊥) → BufferIs (cleared (bufferOf d)) d
+uncleared-holds d s h = record { is = sound-buffer d s ∙ sym (ap cleared (sound-buffer d s) ∙ cleared-not (fieldsBuffer d) h); sound = s }
 
 -- as much as fits
-pub fitting-line : (d : Decoder) (n : ℕ) → Sound d → atMost (512 - d .wpos) n ≡ fitting n (lineOf d)
+pub fitting-buffer : (d : Decoder) (n : ℕ) → Sound d → atMost (512 - d .wpos) n ≡ fitting n (bufferOf d)
 unfolding fitting
-fitting-line d n s = sym (ap (λ (l : Line). atMost (512 - l .wpos) n) (sound-line d s))
+fitting-buffer d n s = sym (ap (λ (l : Buffer). atMost (512 - l .wpos) n) (sound-buffer d s))
 
 -- what is unread
-pub held-line : (d : Decoder) (line : Line) → Holds line d → d .wpos - d .rpos ≡ length (line .unread)
-held-line d line h =
+pub held-buffer : (d : Decoder) (buffer : Buffer) → BufferIs buffer d → d .wpos - d .rpos ≡ length (buffer .unread)
+held-buffer d buffer h =
     let s = h .sound in
-    sym (unread-length (d .buf) (d .rpos) (d .wpos) (omega (arith, s .high, s .long))) ∙ ap (λ (l : Line). length (l .unread)) (sym (sound-line d s) ∙ h .is)
+    sym (unread-length d s) ∙ ap (λ (l : Buffer). length (l .unread)) (sym (sound-buffer d s) ∙ h .is)

@@ -1,4 +1,4 @@
-pub mod Frames
+pub mod Judge
 pub mod State
 pub mod Runs
 pub mod OldLoss

@@ -1,16 +1,16 @@
 -- The old loss: why demand 3 speaks of nonempty pieces. Document 01, "Easy ways to be wrong": "Treating an empty piece
 -- as harmless in `feed`"; "The stream": `feed` clears "on an empty piece when the tail is full, even if most bytes were
--- read". Assumes nothing.
+-- read".
 use mathlib.Core.Path.{_≡_}
 use mathlib.Core.List.{List, [], _∷_, _++_}
 use Prim.Native.Nat.{ℕ}
 use lib.ListN.{replicate}
-use Rattle.reading.specs.Reading.{reading, joined}
-use Rattle.line.specs.Runs as runs
+use Rattle.stream.specs.Reading.{readAll, joined}
+use Rattle.buffer.specs.Runs as runs
 use Rattle.reply.specs.declared.CommandReply.{CommandReply}
 use Rattle.reply.specs.Reply.{replyOf}
 use Rattle.decoder.specs.declared.Decoder.{Decoder}
-use Rattle.decoder.specs.Frames.{frames}
+use Rattle.decoder.specs.Judge.{decodeJudge}
 use Rattle.decoder.specs.Runs.{callsBy, FeedTakes}
 
 -- 509 bytes of noise and the first three of the frame 2 1 129 129 169 3, which fill the buffer; an empty piece; and the frame's other three bytes
@@ -23,6 +23,6 @@ anyCalls = callsBy (λ piece. Unit) FeedTakes
 
 pub record OldLoss : Type 0 where
   -- the reading of the uncut stream gives the frame, at 509
-  pub read : reading frames (joined oldPieces) .given ≡ record { place = 509; size = 6; reply = replyOf (129 ∷ []) } ∷ []
+  pub read : readAll decodeJudge (joined oldPieces) .frames ≡ record { place = 509; size = 6; reply = replyOf (129 ∷ []) } ∷ []
   -- a run of those pieces takes every byte, and gives no reply
   pub lost : (d : Decoder) × runs.Run anyCalls ⊥ oldPieces [] (joined oldPieces) [] d

@@ -1,20 +1,20 @@
--- Runs of the decoder: each call may return whatever its contract allows. Crate `line` defines a run. Assumes nothing.
+-- Runs of the decoder: each call may return whatever its contract allows. Crate `buffer` defines a run.
 use mathlib.Core.Bool.{true, false}
 use mathlib.Core.List.{List}
 use Prim.Native.Nat.{ℕ, _<_}
 use lib.ListN.{length}
-use Rattle.line.specs.Line.{fresh}
-use Rattle.line.specs.Runs as runs
+use Rattle.buffer.specs.Buffer.{fresh}
+use Rattle.buffer.specs.Runs as runs
 use Rattle.reply.specs.declared.CommandReply.{CommandReply}
 use Rattle.decoder.specs.declared.Decoder.{Decoder}
-use Rattle.decoder.specs.State.{Holds, FeedIs, NextIs}
+use Rattle.decoder.specs.State.{BufferIs, FeedIs, NextIs}
 
 -- with any feed: the pieces that may be offered, and what of one is taken
 abbrev pub callsBy : (List ℕ → Type 0) → (Decoder → List ℕ → ℕ → Decoder → Type 0) → runs.Calls CommandReply
 callsBy Piece Feeds =
     record {
       State = Decoder;
-      Fresh = λ d. Holds fresh d;
+      Fresh = λ d. BufferIs fresh d;
       Piece = Piece;
       Feeds = Feeds;
       Gives = λ d reply e. (count : ℕ) × NextIs d (record { given = true; count = count; reply = reply; decoder = e });

@@ -1,22 +1,22 @@
 // The stream: bytes are fed in pieces, and the frames among them come out as replies. Ports
 // src/decoder.rs at its default capacity of 512 bytes; document 01, "The stream". The state goes in by
-// value and comes back beside what the call answers. The line figures are added. Assumes nothing.
+// value and comes back beside what the call answers. The line figures are added.
 ghost use mathlib.Core.Path.{_≡_};
-ghost use Prim.Native.Nat.{_+_, _-_, _≤_};
+ghost use Prim.Native.Nat.{_+_, _≤_};
 ghost use lib.ListN.{length, drop};
 ghost use lib.Seq.{paste};
-ghost use Rattle.reading.specs.Searching.{search};
-ghost use Rattle.line.specs.Line.{fresh, atMost, raised, moved, cleared, fitting, copied};
-ghost use Rattle.envelope.specs.Envelope.{payloadPart};
-ghost use Rattle.reply.specs.Reply.{replyOf};
-ghost use Rattle.decoder.specs.Frames.{frames};
-ghost use Rattle.decoder.specs.State.{lineOf, Sound, Holds, FeedIs, NextIs, heldOf, figuresOf, searchOf};
-use envelope::Judged;
+ghost use Rattle.format.specs.Format.{capacity};
+ghost use Rattle.stream.specs.Searching.{search};
+ghost use Rattle.buffer.specs.Buffer.{fresh, atMost, raised, moved, cleared, fitting, copied};
+ghost use Rattle.decoder.specs.Judge.{decodeJudge};
+ghost use Rattle.decoder.specs.State.{bufferOf, Sound, BufferIs, FeedIs, NextIs, heldOf, figuresOf, searchOf};
+use refusals::Consumed;
+use refusals::DecodeError;
 use reply::CommandReply;
 
 // The unread bytes are buf[rpos..wpos]; the figures count since `new`.
 pub struct Decoder {
-    pub buf: [u8; 512],
+    pub buf: [u8; format::CAPACITY],
     pub rpos: usize,
     pub wpos: usize,
     pub fed: u64,
@@ -73,8 +73,8 @@ fn at_most(room: usize, n: usize) -> usize
 }
 
 // Moves `n` bytes from `from` to the front.
-fn move_to_front(buf: &mut [u8; 512], from: usize, n: usize)
-    requires { ⌜ (length (now buf) ≡ 512) × (from + n ≤ 512) ⌝ }
+fn move_to_front(buf: &mut [u8; format::CAPACITY], from: usize, n: usize)
+    requires { ⌜ (length (now buf) ≡ capacity) × (from + n ≤ capacity) ⌝ }
     ensures { λ _. ⌜ now (buf .exit) ≡ paste (now (buf .entry)) 0 (drop from (now (buf .entry))) n ⌝ }
 {
     let mut to: usize = 0;
@@ -85,8 +85,8 @@ fn move_to_front(buf: &mut [u8; 512], from: usize, n: usize)
 }
 
 // Writes the first `n` bytes of the piece at `at`.
-fn copy_in(buf: &mut [u8; 512], at: usize, piece: &[u8], n: usize)
-    requires { ⌜ (length (now buf) ≡ 512) × (at + n ≤ 512) × (n ≤ length (now piece)) ⌝ }
+fn copy_in(buf: &mut [u8; format::CAPACITY], at: usize, piece: &[u8], n: usize)
+    requires { ⌜ (length (now buf) ≡ capacity) × (at + n ≤ capacity) × (n ≤ length (now piece)) ⌝ }
     ensures { λ _. ⌜ now (buf .exit) ≡ paste (now (buf .entry)) at (now (piece .entry)) n ⌝ }
 {
     let mut i: usize = 0;
@@ -98,18 +98,17 @@ fn copy_in(buf: &mut [u8; 512], at: usize, piece: &[u8], n: usize)
 
 // A byte that starts no frame is not given to `judge`, so that noise costs a comparison.
 fn seek(unread: &[u8]) -> Sought
-    ensures { λ r. ⌜ searchOf (now (unread .entry)) r ≡ search frames (now (unread .entry)) ⌝ }
+    ensures { λ r. ⌜ searchOf (now (unread .entry)) r ≡ search decodeJudge (now (unread .entry)) ⌝ }
 {
     let mut over: usize = 0;
     while over < unread.len() {
-        if unread[over] == envelope::FRAME_START_SHORT {
-            match envelope::judge(&unread[over..]) {
-                Judged::Good(count) => return Sought::Found(over, count),
-                Judged::Refused(error) => {
-                    if error.number() == 1 {
-                        return Sought::Nothing(over);
-                    }
-                }
+        if unread[over] == format::FRAME_START_SHORT {
+            match judge::judge(&unread[over..]) {
+                Consumed::To(count) => return Sought::Found(over, count),
+                Consumed::Refused(error) => match error {
+                    DecodeError::IncompleteData => return Sought::Nothing(over),
+                    _ => {}
+                },
             }
         }
         over += 1;
@@ -117,22 +116,12 @@ fn seek(unread: &[u8]) -> Sought
     Sought::Nothing(over)
 }
 
-// The reply of the good frame that `seek` found: its payload part goes to the field readers.
-fn reply_at(unread: &[u8], over: usize, count: usize) -> CommandReply
-    requires { ⌜ (6 ≤ count) × (over + count ≤ length (now unread)) ⌝ }
-    ensures { λ r. ⌜ r ≡ replyOf (payloadPart (count - 5) (drop over (now (unread .entry)))) ⌝ }
-{
-    let start = over + 2;
-    let end = over + count - 3;
-    reply::unpack_from(&unread[start..end])
-}
-
 impl Decoder {
     // A fresh decoder: nothing is unread, and every figure is 0.
     pub fn new() -> Decoder
-        ensures { λ r. ⌜ Holds fresh r ⌝ }
+        ensures { λ r. ⌜ BufferIs fresh r ⌝ }
     {
-        let buf = [0u8; 512];
+        let buf = [0u8; format::CAPACITY];
         Decoder {
             buf,
             rpos: 0,
@@ -145,9 +134,9 @@ impl Decoder {
 
     // A state that no calls can make is taken as a fresh one.
     fn settled(self) -> Decoder
-        ensures { λ r. ⌜ Holds (lineOf self) r ⌝ }
+        ensures { λ r. ⌜ BufferIs (bufferOf self) r ⌝ }
     {
-        if 512 < self.wpos {
+        if format::CAPACITY < self.wpos {
             return Decoder::new();
         }
         if self.wpos < self.rpos {
@@ -158,11 +147,11 @@ impl Decoder {
 
     fn moved(mut self, n: usize) -> Decoder
         requires { ⌜ Sound self ⌝ }
-        ensures { λ r. ⌜ Holds (moved n (lineOf self)) r ⌝ }
+        ensures { λ r. ⌜ BufferIs (moved n (bufferOf self)) r ⌝ }
     {
         let rpos = self.rpos;
         let wpos = self.wpos;
-        if 512 - wpos < n {
+        if format::CAPACITY - wpos < n {
             let unread = wpos - rpos;
             move_to_front(&mut self.buf, rpos, unread);
             self.rpos = 0;
@@ -175,11 +164,11 @@ impl Decoder {
     // As in the Rust, also where an empty piece is fed and the tail is full.
     fn cleared(mut self) -> Decoder
         requires { ⌜ Sound self ⌝ }
-        ensures { λ r. ⌜ Holds (cleared (lineOf self)) r ⌝ }
+        ensures { λ r. ⌜ BufferIs (cleared (bufferOf self)) r ⌝ }
     {
         let rpos = self.rpos;
         let wpos = self.wpos;
-        if wpos == 512 {
+        if wpos == format::CAPACITY {
             let passed = raise(self.passed, wpos - rpos);
             self.passed = passed;
             self.rpos = 0;
@@ -191,11 +180,12 @@ impl Decoder {
 
     fn copied(mut self, piece: &[u8]) -> Fed
         requires { ⌜ Sound self ⌝ }
-        ensures { λ r. ⌜ (r .count ≡ fitting (length (now (piece .entry))) (lineOf self)) × Holds (copied (now (piece .entry)) (r .count) (lineOf self)) (r .decoder) ⌝ }
+        ensures { λ r. ⌜ r .count ≡ fitting (length (now (piece .entry))) (bufferOf self) ⌝ }
+        ensures { λ r. ⌜ BufferIs (copied (now (piece .entry)) (r .count) (bufferOf self)) (r .decoder) ⌝ }
     {
         let wpos = self.wpos;
         let offered = piece.len();
-        let taken = at_most(512 - wpos, offered);
+        let taken = at_most(format::CAPACITY - wpos, offered);
         copy_in(&mut self.buf, wpos, piece, taken);
         let fed = raise(self.fed, taken);
         self.fed = fed;
@@ -224,12 +214,13 @@ impl Decoder {
         let wpos = decoder.wpos;
         match seek(&buf[rpos..wpos]) {
             Sought::Found(over, count) => {
-                let reply = reply_at(&buf[rpos..wpos], over, count);
+                let start = rpos + over;
+                let reply = reply::reply_in(&buf[start..wpos]);
                 let handed = raise(decoder.handed, count);
                 let passed = raise(decoder.passed, over);
                 decoder.handed = handed;
                 decoder.passed = passed;
-                decoder.rpos = rpos + over + count;
+                decoder.rpos = start + count;
                 Next {
                     given: true,
                     count,
@@ -254,7 +245,7 @@ impl Decoder {
 
     // The bytes unread now.
     pub fn held(self) -> u64
-        ensures { λ r. ⌜ r ≡ heldOf (lineOf self) ⌝ }
+        ensures { λ r. ⌜ r ≡ heldOf (bufferOf self) ⌝ }
     {
         let decoder = self.settled();
         let unread = decoder.wpos - decoder.rpos;
@@ -263,7 +254,7 @@ impl Decoder {
 
     // The line figures as they stand now.
     pub fn figures(self) -> Figures
-        ensures { λ r. ⌜ r ≡ figuresOf (lineOf self) ⌝ }
+        ensures { λ r. ⌜ r ≡ figuresOf (bufferOf self) ⌝ }
     {
         let decoder = self.settled();
         let unread = decoder.wpos - decoder.rpos;

@@ -2,9 +2,9 @@
 use libc::STDOUT_FILENO;
 use packer::UnpackedU32;
 use vesc::Command;
+use vesc::Consumed;
 use vesc::Decoder;
 use vesc::Encoded;
-use vesc::Judged;
 use vesc::Kind;
 use vesc::ValuesMask;
 
@@ -54,7 +54,7 @@ fn decoding(received: &[u8]) {
     let answer = decoded.answer;
     let reply = decoded.reply;
     match answer {
-        Judged::Good(count) => {
+        Consumed::To(count) => {
             say(b"bytes of the frame: ", count as u64);
             let kind = reply.kind;
             match kind {
@@ -68,7 +68,7 @@ fn decoding(received: &[u8]) {
                 _ => say(b"another reply: ", kind.number() as u64),
             }
         }
-        Judged::Refused(e) => say(b"refusal ", e.number() as u64),
+        Consumed::Refused(e) => say(b"refusal ", e.number() as u64),
     }
 }
 

@@ -1,20 +1,25 @@
 // Firmware version and build information. Ports `FwVersion` and `FwInfo` of src/command.rs with their readers; the texts of
-// their names are the crate `text`'s, over the lent name bytes. Every function takes every payload. Assumes nothing.
+// their names are the crate `text`'s, over the lent name bytes. A payload that ends early reads as if zeros followed; a good
+// frame's never does (judge/specs/Good.antt).
 ghost use mathlib.Core.Path.{_≡_};
-ghost use lib.ListN.{getD};
-ghost use Rattle.packer.specs.Reading.{unsignedAt};
-ghost use Rattle.names.specs.Names.{scanned};
-ghost use Rattle.firmware.specs.Firmware.{endOf, numberOf, flagOf, fwVersionAfter, fwVersionOf, fwInfoOf, noFwVersion, noFwInfo};
-use kinds::HwType;
-use kinds::QmlHw;
-use names::Scan;
-use packer::UnpackedU32;
+ghost use mathlib.Core.List.{[], _∷_};
+ghost use Prim.Native.Nat.{_≤_};
+ghost use lib.ListN.{length, replicate, getD};
+ghost use Rattle.refusals.specs.Refusals.{consumed};
+ghost use Rattle.refusals.specs.Answers.{placeOr};
+ghost use Rattle.packer.specs.Numbers.{numbersAt};
+ghost use Rattle.layout.specs.Layout.{raws};
+ghost use Rattle.layout.specs.Replies.{fwVersionRest};
+ghost use Rattle.firmware.specs.Firmware.{flagOf, versionBy, fwVersionOf, fwInfoOf, noFwVersion, noFwInfo};
+use codes::HwType;
+use codes::QmlHw;
+use refusals::Consumed;
 
 // Firmware version data.
 pub struct FwVersion {
     pub major: u8,
     pub minor: u8,
-    pub hw_name: [u8; 39],
+    pub hw_name: [u8; format::FW_VERSION_NAME_MAX_LEN],
     pub uuid: [u8; 12],
     pub pairing_done: bool,
     pub test_version_number: u8,
@@ -24,7 +29,7 @@ pub struct FwVersion {
     pub qml_hw: QmlHw,
     pub qml_app: u8,
     pub nrf_flags: u8,
-    pub fw_name: [u8; 39],
+    pub fw_name: [u8; format::FW_VERSION_NAME_MAX_LEN],
     pub hw_crc: u32,
 }
 
@@ -33,72 +38,69 @@ pub struct FwInfo {
     pub major: u8,
     pub minor: u8,
     pub test_version_number: u8,
-    pub commit_hash: [u8; 47],
-    pub user_commit_hash: [u8; 47],
-}
-
-// The byte at a place of a payload, 0 past its end.
-fn byte_at(payload: &[u8], at: usize) -> u8
-    ensures { λ r. ⌜ r ≡ getD (now (payload .entry)) at 0 ⌝ }
-{
-    if at < payload.len() {
-        return payload[at];
-    }
-    0
+    pub commit_hash: [u8; format::FW_INFO_COMMIT_HASH_MAX_LEN],
+    pub user_commit_hash: [u8; format::FW_INFO_COMMIT_HASH_MAX_LEN],
 }
 
 // A true flag is a nonzero byte.
 fn flag_at(payload: &[u8], at: usize) -> bool
     ensures { λ r. ⌜ r ≡ flagOf (getD (now (payload .entry)) at 0) ⌝ }
 {
-    byte_at(payload, at) != 0
+    tables::byte_at(payload, at) != 0
 }
 
-// 0 where there is none, which the payload of a good frame never comes to.
-fn number_at(payload: &[u8], at: usize) -> u32
-    ensures { λ r. ⌜ r ≡ numberOf (unsignedAt 4 (now (payload .entry)) at) ⌝ }
-{
-    match packer::unpack_u32(payload, at) {
-        UnpackedU32::Got(number, _) => number,
-        UnpackedU32::Refused(_) => 0,
-    }
-}
-
-// The same.
-fn end_of(answer: Scan) -> usize
-    ensures { λ r. ⌜ r ≡ endOf (scanned answer) ⌝ }
+// The place after a name; after a refused one the end, so that nothing more is read.
+fn end_of(answer: Consumed, len: usize) -> usize
+    ensures { λ r. ⌜ r ≡ placeOr len (consumed answer) ⌝ }
 {
     match answer {
-        Scan::Found(next) => next,
-        Scan::Refused(_) => 0,
+        Consumed::To(next) => next,
+        Consumed::Refused(_) => len,
     }
+}
+
+// The first twelve bytes.
+fn uuid_of(part: &[u8]) -> [u8; 12]
+    ensures { λ r. ⌜ r ≡ numbersAt (replicate 12 1) (now (part .entry)) 0 ⌝ }
+{
+    let mut uuid = [0u8; 12];
+    if part.len() < 12 {
+        bytes::copy(part, &mut uuid);
+        return uuid;
+    }
+    bytes::copy(&part[0..12], &mut uuid);
+    uuid
 }
 
 // The fields after hw_name: their places in the part do not depend on the name.
-fn fw_version_after(major: u8, minor: u8, hw_name: [u8; 39], rest: &[u8]) -> FwVersion
-    ensures { λ r. ⌜ r ≡ fwVersionAfter major minor «hw_name» (now (rest .entry)) ⌝ }
+fn fw_version_after(
+    major: u8,
+    minor: u8,
+    hw_name: [u8; format::FW_VERSION_NAME_MAX_LEN],
+    rest: &[u8],
+) -> FwVersion
+    ensures { λ r. ⌜ r ≡ versionBy ((major ∷ minor ∷ []), («hw_name», raws fwVersionRest (now (rest .entry)) 0)) ⌝ }
 {
     let fw = names::unpack_c_string_39(rest, 20);
     let fw_name = fw.bytes;
     let answer = fw.answer;
-    let end = end_of(answer);
-    let id = packer::unpack_uuid(rest, 0);
-    let uuid = id.bytes;
+    let end = end_of(answer, rest.len());
+    let uuid = uuid_of(rest);
     FwVersion {
         major,
         minor,
         hw_name,
         uuid,
         pairing_done: flag_at(rest, 12),
-        test_version_number: byte_at(rest, 13),
-        hw_type: kinds::hw_type(byte_at(rest, 14)),
-        custom_config_num: byte_at(rest, 15),
+        test_version_number: tables::byte_at(rest, 13),
+        hw_type: codes::hw_type(tables::byte_at(rest, 14)),
+        custom_config_num: tables::byte_at(rest, 15),
         has_phase_filters: flag_at(rest, 16),
-        qml_hw: kinds::qml_hw(byte_at(rest, 17)),
-        qml_app: byte_at(rest, 18),
-        nrf_flags: byte_at(rest, 19),
+        qml_hw: codes::qml_hw(tables::byte_at(rest, 17)),
+        qml_app: tables::byte_at(rest, 18),
+        nrf_flags: tables::byte_at(rest, 19),
         fw_name,
-        hw_crc: number_at(rest, end),
+        hw_crc: tables::word_at(rest, end),
     }
 }
 
@@ -109,9 +111,9 @@ pub fn unpack_fw_version(payload: &[u8]) -> FwVersion
     let hw = names::unpack_c_string_39(payload, 3);
     let hw_name = hw.bytes;
     let answer = hw.answer;
-    let end = end_of(answer);
-    let major = byte_at(payload, 1);
-    let minor = byte_at(payload, 2);
+    let end = end_of(answer, payload.len());
+    let major = tables::byte_at(payload, 1);
+    let minor = tables::byte_at(payload, 2);
     fw_version_after(major, minor, hw_name, &payload[end..])
 }
 
@@ -121,13 +123,13 @@ pub fn unpack_fw_info(payload: &[u8]) -> FwInfo
     let commit = names::unpack_c_string_47(payload, 4);
     let commit_hash = commit.bytes;
     let answer = commit.answer;
-    let end = end_of(answer);
+    let end = end_of(answer, payload.len());
     let user = names::unpack_c_string_47(payload, end);
     let user_commit_hash = user.bytes;
     FwInfo {
-        major: byte_at(payload, 1),
-        minor: byte_at(payload, 2),
-        test_version_number: byte_at(payload, 3),
+        major: tables::byte_at(payload, 1),
+        minor: tables::byte_at(payload, 2),
+        test_version_number: tables::byte_at(payload, 3),
         commit_hash,
         user_commit_hash,
     }
@@ -139,7 +141,7 @@ pub fn no_fw_version() -> FwVersion
     FwVersion {
         major: 0,
         minor: 0,
-        hw_name: [0u8; 39],
+        hw_name: [0u8; format::FW_VERSION_NAME_MAX_LEN],
         uuid: [0u8; 12],
         pairing_done: false,
         test_version_number: 0,
@@ -149,7 +151,7 @@ pub fn no_fw_version() -> FwVersion
         qml_hw: QmlHw::None,
         qml_app: 0,
         nrf_flags: 0,
-        fw_name: [0u8; 39],
+        fw_name: [0u8; format::FW_VERSION_NAME_MAX_LEN],
         hw_crc: 0,
     }
 }
@@ -161,7 +163,7 @@ pub fn no_fw_info() -> FwInfo
         major: 0,
         minor: 0,
         test_version_number: 0,
-        commit_hash: [0u8; 47],
-        user_commit_hash: [0u8; 47],
+        commit_hash: [0u8; format::FW_INFO_COMMIT_HASH_MAX_LEN],
+        user_commit_hash: [0u8; format::FW_INFO_COMMIT_HASH_MAX_LEN],
     }
 }

@@ -1,4 +1,4 @@
--- A float cut toward zero and held at the ends of an i32: what each test of `f32_to_i32` leaves of `toSigned 31`. Assumes nothing.
+-- A float cut toward zero and held at the ends of an i32: what each test of `f32_to_i32` leaves of `toSigned 31`.
 use mathlib.Core.Path.{_≡_, refl, sym, ap}
 use mathlib.Core.Bool.{true, false, false≢true}
 use Prim.Native.Nat.{ℕ, _+_, _*_, _/_, _≤_, _<_}

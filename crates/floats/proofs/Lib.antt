@@ -1,7 +1,7 @@
 pub mod NotANumber
 pub mod Held
 pub mod Rounding
-pub mod Reading
+pub mod OverScale
 pub mod Scales
 pub mod Samples
 pub mod Nearest

@@ -1,5 +1,5 @@
 -- A whole number becomes the nearest binary32, and at a tie the even one. In units of the format's smallest value it is n, and becomes q * u for a power of two u;
--- another value is a multiple of u, or it is below 2 ^ (prec - 1) * u, which is itself a multiple of u and no more than n. Assumes nothing.
+-- another value is a multiple of u, or it is below 2 ^ (prec - 1) * u, which is itself a multiple of u and no more than n.
 use mathlib.Core.Path.{_≡_, refl, sym, ap, _∙_, subst}
 use mathlib.Core.Bool.{Bool, true, false, not, _&&_, Bool·beq, cond}
 use mathlib.Core.Logic.{_⊎_, inl, inr, ⊎-elim}
@@ -20,7 +20,7 @@ use lib.Ieee.Order.{drop, kept, transfer}
 use lib.Ieee.Scale.{finite}
 use Rattle.floats.specs.Near.{gap, size, negative}
 use Rattle.floats.specs.Nearest.{distance, over, NearestEven}
-use Rattle.floats.proofs.Reading.{wider}
+use Rattle.floats.proofs.OverScale.{wider}
 use Rattle.floats.proofs.Rounding.{Cmp, cmp, gap-mul, closest-err, unit-small, round-value}
 
 -- ---- multiples of u

@@ -1,4 +1,4 @@
--- What the tests of the code say of a NaN and of its patterns. Assumes nothing.
+-- What the tests of the code say of a NaN and of its patterns.
 use mathlib.Core.Path.{_≡_, refl, sym, _∙_, subst}
 use mathlib.Core.Bool.{true, false, not, false≢true}
 use Prim.Native.Nat.{ℕ, _%_, _≤_, _<_}

@@ -1,9 +1,10 @@
 -- One rounding of a fraction in the normal range is off by at most the 2 ^ prec-th part of it: half a unit of the last digit kept, and the fraction has
--- 2 ^ (prec - 1) of those units or more. Assumes nothing.
+-- 2 ^ (prec - 1) of those units or more.
 use mathlib.Core.Path.{_≡_, refl, sym, ap, _∙_, subst}
 use mathlib.Core.Bool.{Bool, not}
 use Prim.Native.Nat.{ℕ, zero, suc, _+_, _-_, _*_, _/_, _%_, _^_, _≤_, _<_, compare, Ordering, Ordering·lt, Ordering·eq, Ordering·gt}
-use native.Mathlib.Nat.{le-trans, le-of-eq, le-mul-of-pos-right, lt-of-le-of-lt, lt-of-lt-of-le, mul-comm, mul-assoc, mul-right-comm, suc-mul, add-mul, mul-sub, mul-le-mul-right, mul-lt-mul-of-pos-right, le-of-mul-le-mul-right, lt-of-mul-lt-mul-right, le-div-iff-mul-le, div-add-mod', mod-lt, mul-pos}
+use native.Mathlib.Nat.{le-trans, le-of-eq, le-mul-of-pos-right, lt-of-le-of-lt, lt-of-lt-of-le, mul-comm, mul-assoc, mul-right-comm, suc-mul, add-mul, mul-sub}
+use native.Mathlib.Nat.{mul-le-mul-right, mul-lt-mul-of-pos-right, le-of-mul-le-mul-right, lt-of-mul-lt-mul-right, le-div-iff-mul-le, div-add-mod', mod-lt, mul-pos}
 use native.Mathlib.Omega.{arith}
 use lib.Dec.{T, isLe, isEq, eqb, leb→le, nleb→lt, eqb→eq, eqb-refl}
 use lib.Arith.{lt-of-le-ne}

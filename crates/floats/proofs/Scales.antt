@@ -1,4 +1,4 @@
--- The scales of document 01, each with the literal that the code passes for it: a literal is a float by its bits. Assumes nothing.
+-- The scales of document 01, each with the literal that the code passes for it: a literal is a float by its bits.
 use mathlib.Core.Path.{_≡_, refl}
 use lib.IntN.{pos}
 use lib.Ieee.{binary32, ofInt, ofBits}

@@ -1,10 +1,10 @@
--- How near a reading is to the number it stands for, document 01, "Numbers", over whole numbers and without fractions. Assumes nothing.
+-- How near a reading is to the number it stands for, document 01, "Numbers", over whole numbers and without fractions.
 use mathlib.Core.Path.{_≡_}
 use mathlib.Core.Bool.{Bool, true, false}
 use Prim.Native.Nat.{ℕ, suc, _+_, _-_, _*_, _^_, _≤_}
 use lib.IntN.{ℤ, pos, negsuc}
 use lib.Ieee.{Float, nan, inf, fin, binary32, ofInt, up, down}
-use Rattle.floats.specs.Numbers.{readingOf}
+use Rattle.floats.specs.Numbers.{overScale}
 
 -- how far a and b are apart: one of the two differences is cut off at 0
 abbrev pub gap : ℕ → ℕ → ℕ
@@ -33,4 +33,4 @@ nearness = 2 ^ 22
 
 -- "for raw r and scale s the reading is within |r|/s divided by 2^22 of r/s"
 abbrev pub ReadingNear : ℤ → ℕ → Type 0
-ReadingNear raw scale = Near (readingOf raw (ofInt binary32 (pos scale))) (negative raw) (size raw) scale nearness
+ReadingNear raw scale = Near (overScale raw (ofInt binary32 (pos scale))) (negative raw) (size raw) scale nearness

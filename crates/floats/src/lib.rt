@@ -1,10 +1,10 @@
 // Whole numbers to and from IEEE 754 binary32: document 01, "Numbers".
 // Ports the casts `as f32`, `as i32` and `f32::from_bits` of src/packer.rs, and `f32::to_bits`.
-// Every function takes every argument. Assumes nothing.
+// Every function takes every argument.
 ghost use mathlib.Core.Path.{_≡_};
 ghost use lib.Ieee as Ieee;
 ghost use lib.Ieee.{binary32};
-ghost use Rattle.floats.specs.Numbers.{readingOf, writingOf};
+ghost use Rattle.floats.specs.Numbers.{overScale, timesScale};
 
 // The pattern of +infinity. Without its sign, a pattern is a NaN's exactly where it lies above.
 const INFINITY_BITS: u32 = 0x7f80_0000;
@@ -25,7 +25,7 @@ pub fn i32_to_f32(n: i32) -> f32
 
 // A field's raw number over its scale, as `unpack_f32` and `unpack_f16` read it.
 pub fn scaled(n: i32, scale: f32) -> f32
-    ensures { λ r. ⌜ r ≡ readingOf n scale ⌝ }
+    ensures { λ r. ⌜ r ≡ overScale n scale ⌝ }
 {
     i32_to_f32(n) / scale
 }
@@ -49,7 +49,7 @@ pub fn f32_to_i32(x: f32) -> i32
 
 // A value times its scale as the whole number that is sent, as `pack_f32` writes it.
 pub fn unscaled(value: f32, scale: f32) -> i32
-    ensures { λ r. ⌜ r ≡ writingOf value scale ⌝ }
+    ensures { λ r. ⌜ r ≡ timesScale value scale ⌝ }
 {
     f32_to_i32(value * scale)
 }

@@ -1,5 +1,2 @@
 pub mod Frame
-pub mod Encode
-pub mod Writes
-pub mod OneAnswer
-pub mod Limits
+pub mod Laws

@@ -1,11 +1,11 @@
--- What a name holds: what a copy to the front of zeros leaves. Assumes nothing.
+-- What a name holds: what a copy to the front of zeros leaves.
 use mathlib.Core.Path.{_≡_}
 use mathlib.Core.List.{List, _++_}
 use Prim.Native.Nat.{ℕ, zero, suc, _-_, _≤_}
 use native.Mathlib.Omega.{arith}
 use lib.ListN.{length, take, drop, replicate, length-drop, length-replicate}
 use lib.Seq.{take-length, length-take-le}
-use Rattle.refusals.specs.Refusals.{Answer, given}
+use Rattle.refusals.specs.Refusals.{Answer, ok}
 use Rattle.names.specs.Names.{nulWithin, heldBytes, nameAt}
 use Rattle.names.proofs.Places.{Ends}
 
@@ -35,7 +35,7 @@ pub copied-held
     : (room : ℕ) (bytes : List ℕ) (place next : ℕ) {zeros : List ℕ} → Ends room (length bytes) place next → zeros ≡ replicate room 0
     → take (length (take (next - place) (drop place bytes))) (take (next - place) (drop place bytes))
     ++ drop (length (take (next - place) (drop place bytes))) zeros
-    ≡ heldBytes room (drop place bytes) place (given next)
+    ≡ heldBytes room (drop place bytes) place (ok next)
 unfolding heldBytes
 copied-held room bytes place next ends e =
     let there : next - place ≤ length (drop place bytes) = simp length-drop (omega arith) in

@@ -3,3 +3,4 @@ pub mod Places
 pub mod Holding
 pub mod Prefix
 pub mod Unique
+pub mod Moved

@@ -1,4 +1,4 @@
--- Two's complement, as the machine works it out. Assumes nothing.
+-- Two's complement, as the machine works it out.
 use mathlib.Core.Path.{_≡_, refl, sym, ap, _∙_}
 use mathlib.Core.Bool.{Bool, true, false, not, false≢true, cond}
 use Prim.Native.Nat.{ℕ, zero, suc, _+_, _-_, _*_, _≤_, _<_, _^_}

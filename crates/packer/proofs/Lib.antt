@@ -1,5 +1,10 @@
 pub mod Complement
 pub mod Places
 pub mod Writes
+pub mod Standing
+pub mod Digits
 pub mod Nearness
 pub mod Unique
+pub mod Numbers
+pub mod Kept
+pub mod Bytes

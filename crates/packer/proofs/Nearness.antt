@@ -1,4 +1,4 @@
--- What `unpack_f32` and `unpack_f16` read is near the number over the scale: every raw value, every scale of the tables. Assumes nothing.
+-- What `unpack_f32` and `unpack_f16` read is near the number over the scale: every raw value, every scale of the tables.
 use mathlib.Core.Path.{_≡_, sym, ap, _∙_, subst}
 use mathlib.Core.Bool.{Bool, true, false, not, cond}
 use mathlib.Core.List.{List}
@@ -9,11 +9,11 @@ use lib.Dec.{T, ltb, ltb→lt, nltb→le}
 use lib.IntN.{pos, negsuc}
 use lib.Ieee.{Float, binary32, ofInt, ofBits}
 use Rattle.floats.specs.Near.{size}
-use Rattle.floats.specs.Numbers.{readingOf}
-use Rattle.floats.proofs.Reading.{reading-near}
+use Rattle.floats.specs.Numbers.{overScale}
+use Rattle.floats.proofs.OverScale.{reading-near}
 use Rattle.floats.proofs.Scales.{scales}
 use Rattle.packer.specs.Numbers.{beAt, signedOf}
-use Rattle.packer.specs.Reading.{scaledAt, unpackedF32}
+use Rattle.packer.specs.Unpacking.{scaledAt, unpackedF32}
 use Rattle.packer.specs.Nearness.{Bytes, rawAt, ScaledNear, ResultNear}
 use Rattle.packer.proofs.Places.{read-given}
 use Rattle.packer.specs.declared.UnpackedF32.{UnpackedF32}
@@ -36,7 +36,7 @@ number-small s bytes at (suc width) = omega (arith, number-small s bytes at widt
 
 -- ---- the raw number at a place, read
 pub scaled-near : (width scale : ℕ) → 256 ^ width ≤ 2 ^ 32 → 0 < scale → scale ≤ 2 ^ 24 → (s : List ℕ) (at : ℕ)
-    → ScaledNear width scale s at (readingOf (rawAt width s at) (ofInt binary32 (pos scale)))
+    → ScaledNear width scale s at (overScale (rawAt width s at) (ofInt binary32 (pos scale)))
 scaled-near width scale narrow positive small s at = reading-near (rawAt width s at) scale (signed-size (256 ^ width) (beAt s at width) narrow) positive small
 
 -- ---- a scale of the tables, with the literal that the code passes for it
@@ -68,7 +68,7 @@ module _ (width : ℕ) (narrow : 256 ^ width ≤ 2 ^ 32) {scale : ℕ} {literal 
   result-near : (s : List ℕ) (at : ℕ) (r : UnpackedF32) → unpackedF32 r ≡ scaledAt width literal s at → ResultNear width scale s at r
   result-near s at (Got value next) e =
       subst (ScaledNear width scale s at)
-      (ap (readingOf (rawAt width s at)) (t .is) ∙ ap (λ (r : Float × ℕ). r .0) (read-given width _ s at (value, next) (sym e) .1))
+      (ap (overScale (rawAt width s at)) (t .is) ∙ ap (λ (r : Float × ℕ). r .0) (read-given width _ s at (value, next) (sym e) .1))
       (scaled-near width scale narrow (t .positive) (t .small) s at)
   result-near s at (Refused e) p = tt
 

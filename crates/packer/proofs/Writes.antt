@@ -1,5 +1,5 @@
 -- Writes of bytes into a slice: the digits of a number from its last on, a write where there is room, and two writes that are one.
--- Assumes nothing.
+--
 use mathlib.Core.Path.{_≡_, refl, sym, ap, _∙_}
 use mathlib.Core.List.{List, [], _∷_, _++_}
 use Prim.Native.Nat.{ℕ, zero, suc, _+_, _-_, _/_, _%_, _≤_, _<_}
@@ -8,9 +8,9 @@ use native.Mathlib.Omega.{arith}
 use lib.ListN.{length, set, length-append}
 use lib.Seq.{sets, sets-eq, length-sets, set-comm}
 use borrow.Author.Tests.{le-leb, lt-leb}
-use Rattle.refusals.specs.Refusals.{given, refused, bufferTooSmall}
+use Rattle.refusals.specs.Refusals.{ok, refused, bufferTooSmall}
 use Rattle.packer.specs.Numbers.{bigEndian}
-use Rattle.packer.specs.Writing.{written, packAnswer, packAfter, Packs}
+use Rattle.packer.specs.Packing.{written, packAnswer, packAfter, PackIs}
 use Rattle.packer.specs.declared.Packed.{Packed}
 use Rattle.packer.specs.declared.Packed.the-variants.{Next, Refused}
 use Rattle.refusals.specs.declared.EncodeError.the-variants.{BufferTooSmall}
@@ -53,7 +53,7 @@ pub stored : (bytes l : List ℕ) (at : ℕ) → at + length bytes ≤ length l 
 unfolding written
 stored bytes l at h = sets-eq bytes l at h
 
-pub fits-answer : (bytes l : List ℕ) (at : ℕ) → at + length bytes ≤ length l → packAnswer bytes l at ≡ given (at + length bytes)
+pub fits-answer : (bytes l : List ℕ) (at : ℕ) → at + length bytes ≤ length l → packAnswer bytes l at ≡ ok (at + length bytes)
 unfolding packAnswer
 fits-answer bytes l at h = rw (le-leb (at + length bytes) (length l) h)
 
@@ -70,20 +70,20 @@ full-after : (bytes l : List ℕ) (at : ℕ) → length l < at + length bytes �
 unfolding packAfter
 full-after bytes l at h = rw (lt-leb (at + length bytes) (length l) h)
 
-pub full-packed : (bytes l : List ℕ) (at : ℕ) → length l < at + length bytes → Packs bytes l at (Refused BufferTooSmall) l
+pub full-packed : (bytes l : List ℕ) (at : ℕ) → length l < at + length bytes → PackIs bytes l at (Refused BufferTooSmall) l
 full-packed bytes l at h = record { answer = sym (full-answer bytes l at h); holds = sym (full-after bytes l at h) }
 
 -- ---- the digits of a number
 pub digits-packed : (width n : ℕ) (l : List ℕ) (at : ℕ) (after : List ℕ) → at + width ≤ length l → after ≡ written l at (bigEndian width n)
-    → Packs (bigEndian width n) l at (Next (at + width)) after
+    → PackIs (bigEndian width n) l at (Next (at + width)) after
 digits-packed width n l at after h e =
     let d : length (bigEndian width n) ≡ width = digits-length width n in
     record {
-      answer = ap (λ (k : ℕ). given (at + k)) (sym d) ∙ sym (fits-answer (bigEndian width n) l at (omega arith));
+      answer = ap (λ (k : ℕ). ok (at + k)) (sym d) ∙ sym (fits-answer (bigEndian width n) l at (omega arith));
       holds = e ∙ sym (fits-after (bigEndian width n) l at (omega arith));
     }
 
-pub no-digits-packed : (width n : ℕ) (l : List ℕ) (at : ℕ) → length l < at + width → Packs (bigEndian width n) l at (Refused BufferTooSmall) l
+pub no-digits-packed : (width n : ℕ) (l : List ℕ) (at : ℕ) → length l < at + width → PackIs (bigEndian width n) l at (Refused BufferTooSmall) l
 no-digits-packed width n l at h = full-packed (bigEndian width n) l at (omega (arith, digits-length width n))
 
 -- ---- two writes, one after the other, are one write of the joined bytes: the answer, and what the slice holds where both fit
@@ -110,8 +110,8 @@ module _ (p q l : List ℕ) (at : ℕ) (h : at + length p ≤ length l) where
       ∙ sym (as-sets (p ++ q) l at k)
 
 -- the same of what two writers answered
-pub two-packs : {p q l m after : List ℕ} {at : ℕ} {r s : Packed} → at + length (p ++ q) ≤ length l → Packs p l at r m → Packs q m (at + length p) s after
-    → Packs (p ++ q) l at s after
+pub two-packs : {p q l m after : List ℕ} {at : ℕ} {r s : Packed} → at + length (p ++ q) ≤ length l → PackIs p l at r m → PackIs q m (at + length p) s after
+    → PackIs (p ++ q) l at s after
 two-packs {p} {q} {l} {m} {after} {at} room w v =
     let first : at + length p ≤ length l = omega (arith, length-append p q) in
     record {
@@ -120,6 +120,6 @@ two-packs {p} {q} {l} {m} {after} {at} room w v =
     }
 
 -- no byte
-pub none-packed : (l : List ℕ) (at : ℕ) → at ≤ length l → Packs [] l at (Next at) l
+pub none-packed : (l : List ℕ) (at : ℕ) → at ≤ length l → PackIs [] l at (Next at) l
 none-packed l at room =
-    record { answer = rw (fits-answer [] l at (omega arith)) (ap given (omega arith)); holds = sym (fits-after [] l at (omega arith) ∙ sym (stored [] l at (omega arith))) }
+    record { answer = rw (fits-answer [] l at (omega arith)) (ap ok (omega arith)); holds = sym (fits-after [] l at (omega arith) ∙ sym (stored [] l at (omega arith))) }

@@ -1,5 +1,6 @@
 pub mod Numbers
-pub mod Reading
-pub mod Writing
+pub mod Unpacking
+pub mod Packing
 pub mod Nearness
+pub mod Standing
 pub mod OneAnswer

@@ -1,4 +1,4 @@
--- The error bound of document 01, "Numbers", of what the scaled readers answer. Assumes nothing.
+-- The error bound of document 01, "Numbers", of what the scaled readers answer.
 use Prim.Native.Nat.{ℕ, _^_, _<_}
 use mathlib.Core.List.{List}
 use lib.IntN.{ℤ}

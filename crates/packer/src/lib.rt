@@ -1,13 +1,14 @@
 // Numbers in a lent slice of bytes. Ports src/packer.rs: what its `Unpacker` and `Packer` do at
-// their position stands here as functions of the slice and the position. Assumes nothing.
+// their position stands here as functions of the slice and the position.
 ghost use mathlib.Core.Path.{_≡_};
 ghost use Prim.Native.Nat.{_+_, _*_, _%_, _≤_, _<_, _^_};
 ghost use lib.ListN.{length};
 ghost use lib.Signed.{mag};
-ghost use Rattle.floats.specs.Numbers.{writingOf};
+ghost use Rattle.floats.specs.Numbers.{timesScale};
 ghost use Rattle.packer.specs.Numbers.{beAt, bigEndian, signedOf, unsignedOf};
-ghost use Rattle.packer.specs.Reading.{unsignedAt, signedAt, unpackedU8, unpackedU16, unpackedU32, unpackedI16, unpackedI32, unpackedF32, scaledAt, floatAt, NumberBelow, UuidAt};
-ghost use Rattle.packer.specs.Writing.{written, Packs};
+ghost use Rattle.packer.specs.Unpacking.{unsignedAt, signedAt, unpackedU8, unpackedU16, unpackedU32, unpackedI16, unpackedI32, unpackedF32, scaledAt, floatAt, NumberBelow, UuidIs};
+ghost use Rattle.packer.specs.Packing.{written, PackIs};
+use refusals::Consumed;
 use refusals::DecodeError;
 use refusals::EncodeError;
 
@@ -46,12 +47,6 @@ pub enum UnpackedF32 {
 pub struct UnpackedUuid {
     pub answer: Consumed,
     pub bytes: [u8; 12],
-}
-
-// The position after what was read, or the refusal.
-pub enum Consumed {
-    To(usize),
-    Refused(DecodeError),
 }
 
 // A cast at an index would ask that the byte fits; here it is the function's own.
@@ -190,7 +185,7 @@ pub fn unpack_f32_auto(buf: &[u8], pos: usize) -> UnpackedF32
 }
 
 pub fn unpack_uuid(buf: &[u8], pos: usize) -> UnpackedUuid
-    ensures { λ r. ⌜ UuidAt (now (buf .entry)) pos r ⌝ }
+    ensures { λ r. ⌜ UuidIs (now (buf .entry)) pos r ⌝ }
 {
     let len = buf.len();
     if len < 12 {
@@ -236,8 +231,8 @@ fn put_be(buf: &mut [u8], pos: usize, width: usize, number: u32)
 }
 
 // The same where there is room, and nothing where there is none.
-fn pack_be(buf: &mut [u8], pos: usize, width: usize, number: u32) -> Packed
-    ensures { λ r. ⌜ Packs (bigEndian width number) (now (buf .entry)) pos r (now (buf .exit)) ⌝ }
+pub fn pack_be(buf: &mut [u8], pos: usize, width: usize, number: u32) -> Packed
+    ensures { λ r. ⌜ PackIs (bigEndian width number) (now (buf .entry)) pos r (now (buf .exit)) ⌝ }
 {
     let room = buf.len();
     if room < width {
@@ -261,39 +256,46 @@ fn unsigned(last: u32, value: i32) -> u32
     value as u32
 }
 
+// The Rust's `value as u32`, the inverse of `as_i32`.
+pub fn as_u32(value: i32) -> u32
+    ensures { λ r. ⌜ r ≡ unsignedOf (256 ^ 4) value ⌝ }
+{
+    unsigned(4294967295, value)
+}
+
 pub fn pack_u32(buf: &mut [u8], pos: usize, value: u32) -> Packed
-    ensures { λ r. ⌜ Packs (bigEndian 4 value) (now (buf .entry)) pos r (now (buf .exit)) ⌝ }
+    ensures { λ r. ⌜ PackIs (bigEndian 4 value) (now (buf .entry)) pos r (now (buf .exit)) ⌝ }
 {
     pack_be(buf, pos, 4, value)
 }
 
 pub fn pack_i32(buf: &mut [u8], pos: usize, value: i32) -> Packed
-    ensures { λ r. ⌜ Packs (bigEndian 4 (unsignedOf (256 ^ 4) value)) (now (buf .entry)) pos r (now (buf .exit)) ⌝ }
+    ensures { λ r. ⌜ PackIs (bigEndian 4 (unsignedOf (256 ^ 4) value)) (now (buf .entry)) pos r (now (buf .exit)) ⌝ }
 {
-    pack_be(buf, pos, 4, unsigned(4294967295, value))
+    pack_be(buf, pos, 4, as_u32(value))
 }
 
 pub fn pack_u16(buf: &mut [u8], pos: usize, value: u16) -> Packed
-    ensures { λ r. ⌜ Packs (bigEndian 2 value) (now (buf .entry)) pos r (now (buf .exit)) ⌝ }
+    ensures { λ r. ⌜ PackIs (bigEndian 2 value) (now (buf .entry)) pos r (now (buf .exit)) ⌝ }
 {
     pack_be(buf, pos, 2, value as u32)
 }
 
 pub fn pack_i16(buf: &mut [u8], pos: usize, value: i16) -> Packed
-    ensures { λ r. ⌜ Packs (bigEndian 2 (unsignedOf (256 ^ 2) value)) (now (buf .entry)) pos r (now (buf .exit)) ⌝ }
+    ensures { λ r. ⌜ PackIs (bigEndian 2 (unsignedOf (256 ^ 2) value)) (now (buf .entry)) pos r (now (buf .exit)) ⌝ }
 {
     pack_be(buf, pos, 2, unsigned(65535, value as i32))
 }
 
 pub fn pack_u8(buf: &mut [u8], pos: usize, value: u8) -> Packed
-    ensures { λ r. ⌜ Packs (bigEndian 1 value) (now (buf .entry)) pos r (now (buf .exit)) ⌝ }
+    ensures { λ r. ⌜ PackIs (bigEndian 1 value) (now (buf .entry)) pos r (now (buf .exit)) ⌝ }
 {
     pack_be(buf, pos, 1, value as u32)
 }
 
 // A value times its scale, toward zero and held: document 01, "Numbers".
 pub fn pack_f32(buf: &mut [u8], pos: usize, value: f32, scale: f32) -> Packed
-    ensures { λ r. ⌜ Packs (bigEndian 4 (unsignedOf (256 ^ 4) (writingOf value scale))) (now (buf .entry)) pos r (now (buf .exit)) ⌝ }
+    ensures { λ r. ⌜ PackIs (bigEndian 4 (unsignedOf (256 ^ 4) (timesScale value scale))) (now (buf .entry)) pos r (now (buf .exit)) ⌝ }
 {
     pack_i32(buf, pos, floats::unscaled(value, scale))
 }

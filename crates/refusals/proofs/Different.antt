@@ -1,4 +1,4 @@
--- Two different answers are never one. Assumes nothing.
+-- Two different answers are never one.
 use mathlib.Core.Path.{_≡_}
 use Prim.Native.Nat.{ℕ}
 use native.Mathlib.Omega.{arith}

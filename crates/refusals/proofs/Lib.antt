@@ -1,2 +1,3 @@
 pub mod Different
 pub mod Unique
+pub mod Answers

@@ -1,12 +1,14 @@
--- Two errors with one refusal are the same, and so the maps that the promises go through lose nothing. Assumes nothing.
+-- Two errors with one refusal are the same, and so the maps that the promises go through lose nothing.
 use mathlib.Core.Path.{_≡_, refl, sym, ap, _∙_}
 use mathlib.Core.Bool.{cond}
 use lib.Dec.{eqb}
 use lib.ListN.{getD}
-use Rattle.refusals.specs.Refusals.{Refusal, Answer, given, refused, decodeRefusal, encodeRefusal}
+use Rattle.refusals.specs.Refusals.{Refusal, Answer, ok, refused, decodeRefusal, encodeRefusal, consumed}
 use Rattle.refusals.specs.OneAnswer.{ToldApart, OneAnswer}
 use Rattle.refusals.specs.declared.DecodeError.{DecodeError}
 use Rattle.refusals.specs.declared.DecodeError.the-variants.{IncompleteData, InvalidFrame, UnknownPacket, ChecksumMismatch}
+use Rattle.refusals.specs.declared.Consumed.{Consumed}
+use Rattle.refusals.specs.declared.Consumed.the-variants as c
 use Rattle.refusals.specs.declared.EncodeError.{EncodeError}
 use Rattle.refusals.specs.declared.EncodeError.the-variants.{BufferTooSmall, PayloadTooLong}
 
@@ -38,12 +40,25 @@ encode-back PayloadTooLong = refl
 
 -- an answer made again from its map's value: `got` of a value, `err` of the error with a refusal's number
 unfoldable pub readBack : {A R : Type 0} → (A → R) → (DecodeError → R) → Answer A → R
-readBack got err (given value) = got value
+readBack got err (ok value) = got value
 readBack got err (refused why) = err (decodeBack why)
 
 unfoldable pub writeBack : {A R : Type 0} → (A → R) → (EncodeError → R) → Answer A → R
-writeBack got err (given value) = got value
+writeBack got err (ok value) = got value
 writeBack got err (refused why) = err (encodeBack why)
 
+consumed-back : (a : Consumed) → readBack c.To c.Refused (consumed a) ≡ a
+unfolding readBack
+consumed-back (c.To next) = refl
+consumed-back (c.Refused e) = ap c.Refused (decode-back e)
+
+pub consumed-unique : ToldApart consumed
+consumed-unique = told-apart consumed (readBack c.To c.Refused) consumed-back
+
 pub one-answer : OneAnswer
-one-answer = record { decode-errors = told-apart decodeRefusal decodeBack decode-back; encode-errors = told-apart encodeRefusal encodeBack encode-back }
+one-answer =
+    record {
+      decode-errors = told-apart decodeRefusal decodeBack decode-back;
+      encode-errors = told-apart encodeRefusal encodeBack encode-back;
+      consumes = consumed-unique;
+    }

@@ -1,9 +1,11 @@
 -- Document 01, "Six refusals": each has a number, and values that are returned with it. Later requests add 7 to 16: a line each here.
--- Assumes nothing.
+--
 use Prim.Native.Nat.{ℕ}
 use mathlib.Core.List.{List, [], _∷_}
 use Rattle.refusals.specs.declared.DecodeError.{DecodeError}
 use Rattle.refusals.specs.declared.DecodeError.the-variants.{IncompleteData, InvalidFrame, UnknownPacket, ChecksumMismatch}
+use Rattle.refusals.specs.declared.Consumed.{Consumed}
+use Rattle.refusals.specs.declared.Consumed.the-variants as c
 use Rattle.refusals.specs.declared.EncodeError.{EncodeError}
 use Rattle.refusals.specs.declared.EncodeError.the-variants.{BufferTooSmall, PayloadTooLong}
 
@@ -38,7 +40,7 @@ payloadTooLong = record { number = 6; values = [] }
 
 -- what a call answers: a value, or a refusal
 pub data Answer (A : Type 0) : Type 0 where
-  given : A → Answer A
+  ok : A → Answer A
   refused : Refusal → Answer A
 
 -- the refusals of reading
@@ -47,6 +49,11 @@ decodeRefusal IncompleteData = incompleteData
 decodeRefusal InvalidFrame = invalidFrame
 decodeRefusal (UnknownPacket id) = unknownPacket id
 decodeRefusal (ChecksumMismatch expected actual) = checksumMismatch expected actual
+
+-- how far a slice was read, or the refusal
+abbrev pub consumed : Consumed → Answer ℕ
+consumed (c.To next) = ok next
+consumed (c.Refused e) = refused (decodeRefusal e)
 
 -- the refusals of writing
 abbrev pub encodeRefusal : EncodeError → Refusal

@@ -1,5 +1,5 @@
 // Why an answer is no. Ports `DecodeError` and `EncodeError` of src/command.rs; document 01, "Six
-// refusals", gives each its number and says what is returned with it. Assumes nothing.
+// refusals", gives each its number and says what is returned with it.
 ghost use mathlib.Core.Path.{_≡_};
 ghost use Rattle.refusals.specs.Refusals.{decodeRefusal, encodeRefusal};
 
@@ -9,6 +9,12 @@ pub enum DecodeError {
     InvalidFrame,
     UnknownPacket { id: u8 },
     ChecksumMismatch { expected: u16, actual: u16 },
+}
+
+// How far a slice was read: the place after what was read, or why it is not read.
+pub enum Consumed {
+    To(usize),
+    Refused(DecodeError),
 }
 
 // Why a buffer is not written.

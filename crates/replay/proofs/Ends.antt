@@ -1,5 +1,5 @@
 -- How a function ends that hands back a read's answer and the position after it. Its contract is that of the read's step. It has no more use for the slice and the
--- position that it took. Once for every read, whatever else it takes. Assumes nothing.
+-- position that it took. Once for every read, whatever else it takes.
 use mathlib.Core.Path.{_≡_, refl}
 use Prim.Native.Nat.{ℕ}
 use mathlib.Core.List.{List, [], _∷_}

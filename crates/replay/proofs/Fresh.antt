@@ -1,4 +1,4 @@
--- A call of `Unpacker::new` in a walk: what it is passed, what it asks, and the Unpacker that it gives, once for every function that calls it. Assumes nothing.
+-- A call of `Unpacker::new` in a walk: what it is passed, what it asks, and the Unpacker that it gives, once for every function that calls it.
 use mathlib.Core.Path.{_≡_, refl, ap}
 use Prim.Native.Nat.{ℕ}
 use mathlib.Core.List.{List, [], _∷_}

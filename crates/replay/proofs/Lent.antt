@@ -1,5 +1,5 @@
 -- A local `Unpacker` is lent to a method for the time of its call, and comes back where the read leaves it. The method is handed a lifetime that is made for the
--- call, within that of the slice. Once for every method, whatever else it takes. Assumes nothing.
+-- call, within that of the slice. Once for every method, whatever else it takes.
 use mathlib.Core.Path.{_≡_, refl, sym, _∙_, ap, subst}
 use Prim.Native.Nat.{ℕ, _<_, _^_}
 use mathlib.Core.List.{List, [], _∷_}
@@ -41,7 +41,7 @@ use denote.Triple.Statement.{Contract, Triple}
 use denote.Triple.Call.{calls-at}
 use denote.Triple.Clauses.{Ended, closing, ensured, lasts}
 use denote.Triple.Walked.{Stays}
-use Rattle.unpacker.specs.Unpacker.{Read, Reads, moved}
+use Rattle.unpacker.specs.Unpacker.{Read, ReadIs, moved}
 use Rattle.unpacker.specs.declared.Unpacker.{Unpacker}
 use Rattle.unpacker.proofs.Steps.{StepType, declared, L, stepRow, answerRow, value, stepValue}
 use Rattle.unpacker.proofs.Thin.{B, unpackerTy, Own}
@@ -115,10 +115,11 @@ module _ (Z : StepType) {X : Type 0} (answers : Z .Answer .Value → X) (ss : Li
           → Seq K W (raw (MethodTriple 𝓤 H A .post (to-method 𝓤 H A ν γ) u) ∷ ‵ (flent (ν ∷ κ) (Body (mem (B κ)) l 0 γ)) ∷ raw (Rest 𝓤 H A W ν (PosShare·left q)) ∷ Γ) G
       unfolding partOf
       comes ν γ u k =
-          use1 W (later (some (λ (a : Z .Answer .Value). ((‵ (flft (ν ∷ κ) (PosShare·left q)) ⊛ ‵ (flft κ (PosShare·right q)) ⊛ ‵ ftrue) ⊛ ‵ (answerRow Z .own a (u ∷ []))) ⊛ raw (ensured 𝓤 H A method (contracts.method-clauses Z answers ss ks hs read 𝓤) (within ν) (self γ, es (within ν)) tt a)))) (id⊢ 𝓤 _) $
+          use1 W (later (some (λ (a : Z .Answer .Value). ((‵ (flft (ν ∷ κ) (PosShare·left q)) ⊛ ‵ (flft κ (PosShare·right q)) ⊛ ‵ ftrue) ⊛ ‵ (answerRow Z .own a (u ∷ [])))
+          ⊛ raw (ensured 𝓤 H A method (contracts.method-clauses Z answers ss ks hs read 𝓤) (within ν) (self γ, es (within ν)) tt a)))) (id⊢ 𝓤 _) $
           await t z $ pick t (λ a. split t $ move t (1 ∷ []) $
-          use1 W (some (λ (ws : Unpacker × Fins (within ν) ss ks (es (within ν))). ‵ (lasts method (within ν) (self γ, es (within ν)) ws) ⊛ raw (fact 𝓤 (Reads (read (within ν) (es (within ν))) h (answers a) (ws .0))))) (id⊢ 𝓤 _) $
-          pick t (λ ws. split t $ move t (1 ∷ []) $ heard t (Reads (read (within ν) (es (within ν))) h (answers a) (ws .0)) (λ e. fsplit t $ move t (2 ∷ []) $ split t $ split3 t $
+          use1 W (some (λ (ws : Unpacker × Fins (within ν) ss ks (es (within ν))). ‵ (lasts method (within ν) (self γ, es (within ν)) ws) ⊛ raw (fact 𝓤 (ReadIs (read (within ν) (es (within ν))) h (answers a) (ws .0))))) (id⊢ 𝓤 _) $
+          pick t (λ ws. split t $ move t (1 ∷ []) $ heard t (ReadIs (read (within ν) (es (within ν))) h (answers a) (ws .0)) (λ e. fsplit t $ move t (2 ∷ []) $ split t $ split3 t $
           -- [the token for the call; 'a's; nothing; the answer; the last Unpacker; the rest's; the lender's part; the way back; …]
           move t (0 ∷ 7 ∷ []) $ use2 W (later (‵ (fdead (ν ∷ κ)) ⊛ ‵ (flft κ (PosShare·left q)))) (within-end 𝓤 H A W ν κ (PosShare·left q)) $ await t z $ split t $
           move t (1 ∷ 2 ∷ []) $ use2 W (‵ (flft κ q)) (W .lfts .lft-join κ q) $
@@ -132,9 +133,11 @@ module _ (Z : StepType) {X : Type 0} (answers : Z .Answer .Value → X) (ss : Li
           let d : Z .D = Z .make a place in
           let at : place ≡ Z .pos d = Z .made-pos a place in
           let told = Z .laws .tells (Z .Answer .into a) (u ∷ []) is in
+          let holds : Z .Answer .Value → Type 0 = λ x. Is (answerRow Z) x (Z .laws .val (Z .Answer .into x) ∷ []) in
+          let fits = subst (λ (n : ℕ). n < 2 ^ 64) (ap (λ (w : Unpacker). w .pos) (e .leaves) ∙ at) (was .1 .1 .1 .0 .1) in
           rewrite t 0 (λ (w : Unpacker). ‵ (fat fullShare unpackerTy l 0 (T′.lowered w))) (e .leaves ∙ ap (moved h) at) refl $ rewrite t 1 (λ (w : Unpacker). ‵ (Own κ w)) (e .leaves ∙ ap (moved h) at) refl $
           k d (λ i. record { answer = (ap answers (sym (Z .made-answer a place)) ∙ e .answers) i; place = sym at i })
-          (LL.owes (declared Z) (L Z) d (subst (λ (x : Z .Answer .Value). Is (answerRow Z) x (Z .laws .val (Z .Answer .into x) ∷ [])) (Z .made-answer a place) (subst (Is (answerRow Z) a) told is), ((refl, subst (λ (n : ℕ). n < 2 ^ 64) (ap (λ (w : Unpacker). w .pos) (e .leaves) ∙ at) (was .1 .1 .1 .0 .1)), tt)))
+          (LL.owes (declared Z) (L Z) d (subst holds (Z .made-answer a place) (subst (Is (answerRow Z) a) told is), ((refl, fits), tt)))
           (ap only told ∙ ap (λ (x : Z .Answer .Value). Z .laws .val (Z .Answer .into x)) (Z .made-answer a place))))))))
 
     -- the call: the Unpacker is lent, the method reads, and the Unpacker comes back, with the answer about to be stored

@@ -1,9 +1,9 @@
--- Four reads in a row by one `Unpacker`, from the start of a slice: each stands where the one before it left the position. Assumes nothing.
+-- Four reads in a row by one `Unpacker`, from the start of a slice: each stands where the one before it left the position.
 use mathlib.Core.List.{List}
 use Prim.Native.Nat.{ℕ}
 use lib.Ieee.{Float}
 use Rattle.refusals.specs.Refusals.{Answer}
-use Rattle.packer.specs.Reading.{unpackedU8, unpackedU32, unpackedF32}
+use Rattle.packer.specs.Unpacking.{unpackedU8, unpackedU32, unpackedF32}
 use Rattle.names.specs.Names.{Name, named39}
 use Rattle.unpacker.specs.Unpacker.{Read, unsignedRead, scaledRead, nameRead}
 use Rattle.replay.specs.declared.thin.Row.{Row}

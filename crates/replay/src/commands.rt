@@ -4,7 +4,7 @@ ghost use Prim.Native.Nat.{_<_};
 use crate::shows;
 use crate::shows::Line;
 use command::Command;
-use frame::Encoded;
+use encode::Encoded;
 use packer::UnpackedI32;
 use packer::UnpackedU16;
 use packer::UnpackedU32;
@@ -93,6 +93,6 @@ pub(crate) fn case(text: &mut [u8], line: Line, case: &[u8]) -> Line {
         return shows::say(text, line, b" too much room");
     }
     let buf = &mut space[..room];
-    let answer = frame::encode(sent, &case[7..], buf);
+    let answer = encode::encode(sent, &case[7..], buf);
     encoded(text, line, answer, buf)
 }

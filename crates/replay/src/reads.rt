@@ -1,14 +1,13 @@
 // The readers' cases: a scale's bits, a position, and the slice that is read.
 use crate::shows;
 use crate::shows::Line;
-use names::Scan;
-use packer::Consumed;
 use packer::UnpackedF32;
 use packer::UnpackedI16;
 use packer::UnpackedI32;
 use packer::UnpackedU8;
 use packer::UnpackedU16;
 use packer::UnpackedU32;
+use refusals::Consumed;
 use refusals::DecodeError;
 
 // The bits of a signed number, by way of the bytes that it is written as.
@@ -76,15 +75,15 @@ pub(crate) fn read_f32(text: &mut [u8], line: Line, read: UnpackedF32) -> Line {
     }
 }
 
-fn position(text: &mut [u8], line: Line, answer: Scan) -> Line {
+fn position(text: &mut [u8], line: Line, answer: Consumed) -> Line {
     match answer {
-        Scan::Found(next) => shows::given(text, line, next),
-        Scan::Refused(e) => refused(text, line, e),
+        Consumed::To(next) => shows::given(text, line, next),
+        Consumed::Refused(e) => refused(text, line, e),
     }
 }
 
 // What was copied out of the slice, on a refusal too: it must then be zeros.
-pub(crate) fn copied(text: &mut [u8], line: Line, answer: Scan, bytes: &[u8]) -> Line {
+pub(crate) fn copied(text: &mut [u8], line: Line, answer: Consumed, bytes: &[u8]) -> Line {
     let now = position(text, line, answer);
     shows::bytes(text, now, bytes)
 }
@@ -108,8 +107,8 @@ fn uuid_at(text: &mut [u8], line: Line, slice: &[u8], pos: usize) -> Line {
     let bytes = uuid.bytes;
     let answer = uuid.answer;
     match answer {
-        Consumed::To(next) => copied(text, line, Scan::Found(next), &bytes),
-        Consumed::Refused(e) => copied(text, line, Scan::Refused(e), &bytes),
+        Consumed::To(next) => copied(text, line, Consumed::To(next), &bytes),
+        Consumed::Refused(e) => copied(text, line, Consumed::Refused(e), &bytes),
     }
 }
 

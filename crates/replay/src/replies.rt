@@ -3,14 +3,14 @@
 use crate::reads;
 use crate::shows;
 use crate::shows::Line;
-use envelope::Judged;
 use firmware::FwInfo;
 use firmware::FwVersion;
-use records::SetupValues;
-use records::Stats;
-use records::Values;
+use refusals::Consumed;
 use refusals::DecodeError;
 use reply::CommandReply;
+use telemetry::SetupValues;
+use telemetry::Stats;
+use telemetry::Values;
 
 // A float by its bits; every NaN has the same.
 fn bits(value: f32) -> u32 {
@@ -43,7 +43,7 @@ fn of_values(v: Values) -> [u32; 24] {
         bits(v.watt_hours_charged),
         reads::bits_of(v.tachometer),
         reads::bits_of(v.tachometer_abs),
-        byte(kinds::fault_number(fault)),
+        byte(codes::fault_number(fault)),
         bits(v.pid_pos),
         byte(v.controller_id),
         bits(v.temp_mosfet1),
@@ -74,7 +74,7 @@ fn of_setup_values(v: SetupValues) -> [u32; 22] {
         bits(v.distance),
         bits(v.distance_abs),
         bits(v.pid_pos),
-        byte(kinds::fault_number(fault)),
+        byte(codes::fault_number(fault)),
         byte(v.controller_id),
         byte(v.num_vescs),
         bits(v.watt_hours_battery_left),
@@ -122,10 +122,10 @@ fn mix_fw_version(text: &mut [u8], line: Line, v: FwVersion) -> Line {
     let middle = [
         flag(v.pairing_done),
         byte(v.test_version_number),
-        byte(kinds::hw_type_number(hw)),
+        byte(codes::hw_type_number(hw)),
         byte(v.custom_config_num),
         flag(v.has_phase_filters),
-        byte(kinds::qml_hw_number(qml)),
+        byte(codes::qml_hw_number(qml)),
         byte(v.qml_app),
         byte(v.nrf_flags),
     ];
@@ -184,10 +184,10 @@ fn returned(text: &mut [u8], line: Line, e: DecodeError) -> Line {
     }
 }
 
-fn count(text: &mut [u8], line: Line, answer: Judged) -> Line {
+fn count(text: &mut [u8], line: Line, answer: Consumed) -> Line {
     match answer {
-        Judged::Good(count) => shows::given(text, line, count),
-        Judged::Refused(e) => returned(text, line, e),
+        Consumed::To(count) => shows::given(text, line, count),
+        Consumed::Refused(e) => returned(text, line, e),
     }
 }
 

@@ -1,11 +1,11 @@
--- What `decode` answers is the only answer, and a reply's number tells its kind. Assumes nothing.
+-- What `decode` answers is the only answer, and a reply's number tells its kind.
 use mathlib.Core.Path.{_≡_, refl, ap}
 use mathlib.Core.Bool.{cond}
 use Prim.Native.Nat.{ℕ}
 use lib.Dec.{eqb}
 use Rattle.refusals.specs.OneAnswer.{ToldApart}
 use Rattle.refusals.proofs.Unique.{told-apart}
-use Rattle.envelope.proofs.Unique as envelope
+use Rattle.refusals.proofs.Unique.{consumed-unique}
 use Rattle.reply.specs.Reply.{kindNumber}
 use Rattle.reply.specs.Decode.{Decode, decoded}
 use Rattle.reply.specs.OneAnswer.{OneAnswer}
@@ -14,7 +14,7 @@ use Rattle.reply.specs.declared.Kind.the-variants as Kind
 
 decode-unique : ToldApart decoded
 decode-unique a b e =
-    λ i. record { answer = envelope.one-answer .judge (a .answer) (b .answer) (ap (λ (d : Decode). d .answer) e) i; reply = ap (λ (d : Decode). d .reply) e i }
+    λ i. record { answer = consumed-unique (a .answer) (b .answer) (ap (λ (d : Decode). d .answer) e) i; reply = ap (λ (d : Decode). d .reply) e i }
 
 kindBack : ℕ → Kind
 kindBack n =

@@ -1,8 +1,9 @@
--- `decode`: what a slice is judged to be, and the reply of a good frame. Document 01, "The envelope". Assumes nothing.
-use Prim.Native.Nat.{ℕ, _-_}
+-- `decode`: what a slice is judged to be, and the reply of a good frame. Document 01, "The envelope".
+use Prim.Native.Nat.{ℕ}
 use mathlib.Core.List.{List}
-use Rattle.refusals.specs.Refusals.{Answer, given, refused}
-use Rattle.envelope.specs.Envelope.{judged, judgeOf, payloadPart}
+use Rattle.refusals.specs.Refusals.{Answer, ok, refused, consumed}
+use Rattle.frame.specs.Frame.{short, payloadIn}
+use Rattle.judge.specs.Judge.{judgeOf}
 use Rattle.reply.specs.Reply.{replyOf, emptyReply}
 use Rattle.reply.specs.declared.CommandReply.{CommandReply}
 use Rattle.reply.specs.declared.Decoded.{Decoded}
@@ -12,9 +13,13 @@ pub record Decode : Type 0 where
   pub answer : Answer ℕ
   pub reply : CommandReply
 
--- a good frame's payload carries the reply; "all of them on a refusal .. hold zeros"
+-- the reply of the frame that s starts with: its payload carries it
+unfoldable pub replyIn : List ℕ → CommandReply
+replyIn s = replyOf (payloadIn short s)
+
+-- the reply of a good frame; "all of them on a refusal .. hold zeros"
 unfoldable pub replyBy : Answer ℕ → List ℕ → CommandReply
-replyBy (given count) s = replyOf (payloadPart (count - 5) s)
+replyBy (ok count) s = replyIn s
 replyBy (refused why) s = emptyReply
 
 unfoldable pub decodeOf : List ℕ → Decode
@@ -22,4 +27,4 @@ decodeOf s = record { answer = judgeOf s; reply = replyBy (judgeOf s) s }
 
 -- what `decode` answers, through the map of the judgement
 abbrev pub decoded : Decoded → Decode
-decoded d = record { answer = judged (d .answer); reply = d .reply }
+decoded d = record { answer = consumed (d .answer); reply = d .reply }

@@ -1,4 +1,4 @@
--- `decode` has one answer, and a reply's number tells its kind. Assumes nothing.
+-- `decode` has one answer, and a reply's number tells its kind.
 use Rattle.refusals.specs.OneAnswer.{ToldApart}
 use Rattle.reply.specs.Reply.{kindNumber}
 use Rattle.reply.specs.Decode.{decoded}

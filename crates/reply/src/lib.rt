@@ -1,21 +1,19 @@
 // Replies from a VESC motor controller. Ports the second half of src/command.rs: `CommandReply`, its reading, and `decode`. An enum
 // can't hold the arrays of the Rust's variants, so a reply is a struct: the kind, and one record of each sort.
-// Every function takes every slice. Assumes nothing.
+// Every function takes every slice.
 ghost use mathlib.Core.Path.{_≡_};
-ghost use lib.ListN.{getD};
-ghost use Rattle.fields.specs.Fields.{valuesTable};
-ghost use Rattle.fields.specs.Reading.{unpackedRaws};
-ghost use Rattle.records.specs.Records.{valuesOf};
-ghost use Rattle.reply.specs.Reply.{kindNumber, blankOf, emptyReply, maskOf, withValues, getValuesOf, getValuesSelectiveOf, getValuesSetupSelectiveOf, getStatsOf, fwVersionReplyOf, fwInfoReplyOf, replyOf};
-ghost use Rattle.reply.specs.Decode.{decodeOf, decoded};
-use envelope::Judged;
-use fields::Sort;
+ghost use Rattle.packer.specs.Numbers.{numbersAt};
+ghost use Rattle.tables.specs.Tables.{widths, valuesTable};
+ghost use Rattle.telemetry.specs.Telemetry.{valuesOf};
+ghost use Rattle.reply.specs.Reply.{kindNumber, blankOf, emptyReply, withValues, getValuesOf, getValuesSelectiveOf, getValuesSetupSelectiveOf, getStatsOf, fwVersionReplyOf, fwInfoReplyOf, replyOf};
+ghost use Rattle.reply.specs.Decode.{replyIn, decodeOf, decoded};
 use firmware::FwInfo;
 use firmware::FwVersion;
-use packer::UnpackedU32;
-use records::SetupValues;
-use records::Stats;
-use records::Values;
+use refusals::Consumed;
+use tables::Sort;
+use telemetry::SetupValues;
+use telemetry::Stats;
+use telemetry::Values;
 
 // The kind of a reply: which of the Rust's variants it is.
 pub enum Kind {
@@ -40,7 +38,7 @@ pub struct CommandReply {
 
 // What `decode` answers: the count of a good frame with its reply, or the refusal with the empty one.
 pub struct Decoded {
-    pub answer: Judged,
+    pub answer: Consumed,
     pub reply: CommandReply,
 }
 
@@ -50,13 +48,13 @@ impl Kind {
         ensures { λ r. ⌜ r ≡ kindNumber self ⌝ }
     {
         match self {
-            Kind::FwVersion => 0,
-            Kind::GetValues => 4,
-            Kind::GetValuesSelective => 50,
-            Kind::GetValuesSetupSelective => 51,
-            Kind::GetStats => 128,
-            Kind::ResetStats => 129,
-            Kind::FwInfo => 157,
+            Kind::FwVersion => format::FW_VERSION,
+            Kind::GetValues => format::GET_VALUES,
+            Kind::GetValuesSelective => format::GET_VALUES_SELECTIVE,
+            Kind::GetValuesSetupSelective => format::GET_VALUES_SETUP_SELECTIVE,
+            Kind::GetStats => format::GET_STATS,
+            Kind::ResetStats => format::RESET_STATS,
+            Kind::FwInfo => format::FW_INFO,
         }
     }
 }
@@ -67,9 +65,9 @@ fn blank(kind: Kind) -> CommandReply
 {
     CommandReply {
         kind,
-        values: records::no_values(),
-        setup_values: records::no_setup_values(),
-        stats: records::no_stats(),
+        values: telemetry::no_values(),
+        setup_values: telemetry::no_setup_values(),
+        stats: telemetry::no_stats(),
         fw_version: firmware::no_fw_version(),
         fw_info: firmware::no_fw_info(),
     }
@@ -82,57 +80,50 @@ pub fn empty() -> CommandReply
     blank(Kind::FwVersion)
 }
 
-// The mask that a masked reply carries after its id.
-fn mask_of(payload: &[u8]) -> u32
-    ensures { λ r. ⌜ r ≡ maskOf (now (payload .entry)) ⌝ }
-{
-    match packer::unpack_u32(payload, 1) {
-        UnpackedU32::Got(mask, _) => mask,
-        UnpackedU32::Refused(_) => 0,
-    }
-}
-
 fn with_values(kind: Kind, mask: u32, payload: &[u8], at: usize) -> CommandReply
-    ensures { λ r. ⌜ r ≡ withValues kind (valuesOf mask (unpackedRaws valuesTable mask (now (payload .entry)) at)) ⌝ }
+    ensures { λ r. ⌜ r ≡ withValues kind (valuesOf (numbersAt (widths mask valuesTable) (now (payload .entry)) at)) ⌝ }
 {
-    let fields = fields::unpack_fields(payload, at, Sort::Values, mask);
-    let raw = fields.raw;
+    let raw = tables::unpack_fields(payload, at, Sort::Values, mask);
     let mut reply = blank(kind);
-    reply.values = records::values_of(mask, raw);
+    reply.values = telemetry::values_of(raw);
     reply
 }
 
 fn unpack_get_values(payload: &[u8]) -> CommandReply
     ensures { λ r. ⌜ r ≡ getValuesOf (now (payload .entry)) ⌝ }
 {
-    with_values(Kind::GetValues, envelope::ALL_VALUES, payload, 1)
+    with_values(Kind::GetValues, format::ALL_VALUES, payload, 1)
 }
 
+// The fields of a masked reply follow its mask of four bytes.
 fn unpack_get_values_selective(payload: &[u8]) -> CommandReply
     ensures { λ r. ⌜ r ≡ getValuesSelectiveOf (now (payload .entry)) ⌝ }
 {
-    with_values(Kind::GetValuesSelective, mask_of(payload), payload, 5)
+    with_values(
+        Kind::GetValuesSelective,
+        tables::word_at(payload, 1),
+        payload,
+        5,
+    )
 }
 
 fn unpack_get_values_setup_selective(payload: &[u8]) -> CommandReply
     ensures { λ r. ⌜ r ≡ getValuesSetupSelectiveOf (now (payload .entry)) ⌝ }
 {
-    let mask = mask_of(payload);
-    let fields = fields::unpack_fields(payload, 5, Sort::SetupValues, mask);
-    let raw = fields.raw;
+    let mask = tables::word_at(payload, 1);
+    let raw = tables::unpack_fields(payload, 5, Sort::SetupValues, mask);
     let mut reply = blank(Kind::GetValuesSetupSelective);
-    reply.setup_values = records::setup_values_of(mask, raw);
+    reply.setup_values = telemetry::setup_values_of(raw);
     reply
 }
 
 fn unpack_get_stats(payload: &[u8]) -> CommandReply
     ensures { λ r. ⌜ r ≡ getStatsOf (now (payload .entry)) ⌝ }
 {
-    let mask = mask_of(payload);
-    let fields = fields::unpack_fields(payload, 5, Sort::Stats, mask);
-    let raw = fields.raw;
+    let mask = tables::word_at(payload, 1);
+    let raw = tables::unpack_fields(payload, 5, Sort::Stats, mask);
     let mut reply = blank(Kind::GetStats);
-    reply.stats = records::stats_of(mask, raw);
+    reply.stats = telemetry::stats_of(raw);
     reply
 }
 
@@ -152,31 +143,37 @@ fn unpack_fw_info(payload: &[u8]) -> CommandReply
     reply
 }
 
-// A payload's first byte. A good frame's has one; where there is none, 0 stands in.
-fn id_of(payload: &[u8]) -> u8
-    ensures { λ r. ⌜ r ≡ getD (now (payload .entry)) 0 0 ⌝ }
-{
-    if 0 < payload.len() {
-        return payload[0];
-    }
-    0
-}
-
 // The reply that a good frame's payload carries, by its id.
 pub fn unpack_from(payload: &[u8]) -> CommandReply
     ensures { λ r. ⌜ r ≡ replyOf (now (payload .entry)) ⌝ }
 {
-    let id = id_of(payload);
+    let id = tables::byte_at(payload, 0);
     match id {
-        envelope::FW_VERSION => unpack_fw_version(payload),
-        envelope::GET_VALUES => unpack_get_values(payload),
-        envelope::GET_VALUES_SELECTIVE => unpack_get_values_selective(payload),
-        envelope::GET_VALUES_SETUP_SELECTIVE => unpack_get_values_setup_selective(payload),
-        envelope::GET_STATS => unpack_get_stats(payload),
-        envelope::RESET_STATS => blank(Kind::ResetStats),
-        envelope::FW_INFO => unpack_fw_info(payload),
+        format::FW_VERSION => unpack_fw_version(payload),
+        format::GET_VALUES => unpack_get_values(payload),
+        format::GET_VALUES_SELECTIVE => unpack_get_values_selective(payload),
+        format::GET_VALUES_SETUP_SELECTIVE => unpack_get_values_setup_selective(payload),
+        format::GET_STATS => unpack_get_stats(payload),
+        format::RESET_STATS => blank(Kind::ResetStats),
+        format::FW_INFO => unpack_fw_info(payload),
         _ => empty(),
     }
+}
+
+// The reply of the good frame that `frame` starts with. Its payload part, as long as the length byte says, is cut out here and
+// goes to the field readers. Of other bytes, what there is of such a part.
+pub fn reply_in(frame: &[u8]) -> CommandReply
+    ensures { λ r. ⌜ r ≡ replyIn (now (frame .entry)) ⌝ }
+{
+    let len = frame.len();
+    if len < format::PAYLOAD_AT {
+        return unpack_from(&frame[len..]);
+    }
+    let end = frame[1] as usize + format::PAYLOAD_AT;
+    if len < end {
+        return unpack_from(&frame[format::PAYLOAD_AT..]);
+    }
+    unpack_from(&frame[format::PAYLOAD_AT..end])
 }
 
 // The reply that a good frame carries, or why there is none. Ports `decode` of src/command.rs: judged first, and the fields
@@ -184,17 +181,13 @@ pub fn unpack_from(payload: &[u8]) -> CommandReply
 pub fn decode(buf: &[u8]) -> Decoded
     ensures { λ r. ⌜ decoded r ≡ decodeOf (now (buf .entry)) ⌝ }
 {
-    let answer = envelope::judge(buf);
-    match answer {
-        Judged::Good(count) => {
-            let end = count - 3;
-            Decoded {
-                answer,
-                reply: unpack_from(&buf[2..end]),
-            }
-        }
-        Judged::Refused(_) => Decoded {
-            answer,
+    match judge::judge(buf) {
+        Consumed::To(count) => Decoded {
+            answer: Consumed::To(count),
+            reply: reply_in(buf),
+        },
+        Consumed::Refused(error) => Decoded {
+            answer: Consumed::Refused(error),
             reply: empty(),
         },
     }

@@ -1,4 +1,4 @@
--- A name has a text exactly where its first NUL follows well-formed bytes, and these are the text. Assumes nothing.
+-- A name has a text exactly where its first NUL follows well-formed bytes, and these are the text.
 use mathlib.Core.Path.{_≡_, refl, sym, _∙_}
 use mathlib.Core.Bool.{Bool, true, false, cond, false≢true}
 use mathlib.Core.List.{List, [], _∷_}
@@ -7,7 +7,7 @@ use native.Mathlib.Omega.{arith}
 use lib.Dec.{eqb}
 use lib.ListN.{length, getD, take}
 use borrow.Author.Tests.{eqb-true, eqb-false, eq-eqb, ne-eqb}
-use Rattle.refusals.specs.Refusals.{Answer, given, refused}
+use Rattle.refusals.specs.Refusals.{Answer, ok, refused}
 use Rattle.refusals.proofs.Different.{none}
 use Rattle.names.specs.Names.{nulWithin}
 use Rattle.text.specs.Utf8.{wellFormed}
@@ -20,8 +20,8 @@ Met left place next = (k : ℕ) × FirstNulAt left k × (next ≡ place + k + 1)
 
 -- one byte of a scan
 byte-met
-    : (byte : ℕ) (left : List ℕ) (place next : ℕ) (on : Answer ℕ) (t : Bool) → eqb byte 0 ≡ t → (on ≡ given next → Met left (place + 1) next)
-    → cond t (given (place + 1)) on ≡ given next → Met (byte ∷ left) place next
+    : (byte : ℕ) (left : List ℕ) (place next : ℕ) (on : Answer ℕ) (t : Bool) → eqb byte 0 ≡ t → (on ≡ ok next → Met left (place + 1) next)
+    → cond t (ok (place + 1)) on ≡ ok next → Met (byte ∷ left) place next
 byte-met byte left place next on true is rest e =
     let here : place + 1 ≡ next = cc in
     (0, record { inside = omega arith; nul = eqb-true byte 0 is; first = λ j less. absurd (omega arith) }, omega arith)
@@ -34,14 +34,14 @@ byte-met byte left place next on false is rest e =
     earlier (suc j) less = rest e .1 .first j (omega arith)
 
 -- a scan that gives a place has met the first NUL just before it
-nul-met : (room : ℕ) (left : List ℕ) (place next : ℕ) → nulWithin room left place ≡ given next → Met left place next
+nul-met : (room : ℕ) (left : List ℕ) (place next : ℕ) → nulWithin room left place ≡ ok next → Met left place next
 unfolding nulWithin
 nul-met zero left place next e = none (cc)
 nul-met (suc room) [] place next e = none (cc)
 nul-met (suc room) (byte ∷ left) place next e = byte-met byte left place next _ (eqb byte 0) refl (nul-met room left (place + 1) next) e
 
 -- and a first NUL within the room is met
-nul-meets : (room : ℕ) (left : List ℕ) (place k : ℕ) → k < room → FirstNulAt left k → nulWithin room left place ≡ given (place + k + 1)
+nul-meets : (room : ℕ) (left : List ℕ) (place k : ℕ) → k < room → FirstNulAt left k → nulWithin room left place ≡ ok (place + k + 1)
 unfolding nulWithin
 nul-meets zero left place k within nul = absurd (omega arith)
 nul-meets (suc room) [] place k within nul = absurd (omega (arith, nul .inside))
@@ -53,7 +53,7 @@ nul-meets (suc room) (byte ∷ left) place (suc k) within nul =
 
 module _ (name : List ℕ) where
   -- where the first NUL stands at k, the answers of the two functions
-  nul-given : (k : ℕ) → FirstNulAt name k → firstNul name ≡ given (k + 1)
+  nul-given : (k : ℕ) → FirstNulAt name k → firstNul name ≡ ok (k + 1)
   unfolding firstNul
   nul-given k nul = let same : 0 + k + 1 ≡ k + 1 = omega arith in rw same at (nul-meets (length name) name 0 k (nul .inside) nul)
 
@@ -74,7 +74,7 @@ module _ (name : List ℕ) where
     where
       go : (a : Answer ℕ) → firstNul name ≡ a → (k : ℕ) × TextEndsAt name k
       go (refused why) e = absurd (false≢true (rw e at has))
-      go (given next) e =
+      go (ok next) e =
           let met = nul-met (length name) name 0 next e in
           (met .0, record { nul = met .1; formed = well-formed-iff _ .0 (sym (has-at (met .0) (met .1)) ∙ has) })
 

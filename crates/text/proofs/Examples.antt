@@ -1,4 +1,4 @@
--- Sequences on both sides of the table's limits, computed. Assumes nothing.
+-- Sequences on both sides of the table's limits, computed.
 use mathlib.Core.Path.{_≡_, refl}
 use mathlib.Core.Bool.{true, false}
 use mathlib.Core.List.{[], _∷_}

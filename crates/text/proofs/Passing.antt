@@ -1,4 +1,4 @@
--- Well-formed bytes, sequence by sequence: past the one at the front, at none, at the end. Assumes nothing.
+-- Well-formed bytes, sequence by sequence: past the one at the front, at none, at the end.
 use mathlib.Core.Path.{_≡_, refl, sym, ap, _∙_}
 use mathlib.Core.Bool.{true, false}
 use mathlib.Core.List.{List, [], _∷_}

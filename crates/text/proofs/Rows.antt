@@ -1,4 +1,4 @@
--- Rows of the table at a place of the bytes: one range, a row that is two rows joined, and the first row that stands. Assumes nothing.
+-- Rows of the table at a place of the bytes: one range, a row that is two rows joined, and the first row that stands.
 use mathlib.Core.Path.{_≡_, refl, sym, ap, _∙_}
 use mathlib.Core.Bool.{Bool, true, false, _&&_, cond, and-true, and-assoc, and-eq-true-iff, false≢true}
 use mathlib.Core.List.{List, [], _∷_, _++_}
@@ -24,12 +24,10 @@ stands-joined (r ∷ p) q [] = refl
 stands-joined (r ∷ p) q (byte ∷ bytes) =
     ap (λ (b : Bool). within r byte && b) (stands-joined p q bytes) ∙ sym (and-assoc (within r byte) _ _)
 
-module _ (p q : Row) (bytes : List ℕ) (at : ℕ) {first : Bool} (said : first ≡ stands p (drop at bytes)) where
-  pub row-on : {second : Bool} → first ≡ true → second ≡ stands q (drop (at + length p) bytes) → second ≡ stands (p ++ q) (drop at bytes)
-  row-on held e = rw (stands-joined p q (drop at bytes), sym said ∙ held, drop-drop (length p) at bytes) e
-
-  pub row-off : first ≡ false → false ≡ stands (p ++ q) (drop at bytes)
-  row-off failed = rw (stands-joined p q (drop at bytes), sym said ∙ failed)
+-- the same at a place, of what two tests said
+pub row-joined : (p q : Row) (bytes : List ℕ) (at : ℕ) {first both : Bool} → first ≡ stands p (drop at bytes)
+    → both ≡ (first && stands q (drop (at + length p) bytes)) → both ≡ stands (p ++ q) (drop at bytes)
+row-joined p q bytes at said e = e ∙ rw (stands-joined p q (drop at bytes), drop-drop (length p) at bytes, said)
 
 module _ (row : Row) (rows : List Row) (bytes : List ℕ) {first : Bool} (said : first ≡ stands row bytes) where
   pub row-found : first ≡ true → frontLength (row ∷ rows) bytes ≡ length row

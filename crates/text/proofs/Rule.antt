@@ -1,4 +1,4 @@
--- `wellFormed` decides the rule `WellFormed`: rows of different lengths never stand at the front of the same bytes. Assumes nothing.
+-- `wellFormed` decides the rule `WellFormed`: rows of different lengths never stand at the front of the same bytes.
 use mathlib.Core.Path.{_≡_, refl, sym, ap, _∙_}
 use mathlib.Core.Bool.{Bool, true, false, _&&_, _||_, cond, and-eq-true-iff, false≢true}
 use mathlib.Core.List.{List, [], _∷_, List·Memᴰ, List·Memᴰ·head, List·Memᴰ·tail, List·Memᴰ·not-nil, List·Memᴰ·cases-cons}

@@ -1,11 +1,11 @@
--- Document 01, "Reply fields": the text of a name. Assumes nothing.
+-- Document 01, "Reply fields": the text of a name.
 use mathlib.Core.Path.{_≡_}
 use mathlib.Core.Bool.{Bool, true, false, cond}
 use mathlib.Core.List.{List, []}
 use mathlib.Core.Logic.{_↔_}
 use Prim.Native.Nat.{ℕ, _-_, _≤_, _<_}
 use lib.ListN.{length, getD, take}
-use Rattle.refusals.specs.Refusals.{Answer, given, refused}
+use Rattle.refusals.specs.Refusals.{Answer, ok, refused}
 use Rattle.names.specs.Names.{nulWithin}
 use Rattle.text.specs.Utf8.{wellFormed, WellFormed}
 
@@ -15,12 +15,12 @@ firstNul name = nulWithin (length name) name 0
 
 -- "the part of the lent name bytes before the first NUL"
 unfoldable pub partBefore : Answer ℕ → List ℕ → List ℕ
-partBefore (given next) name = take (next - 1) name
+partBefore (ok next) name = take (next - 1) name
 partBefore (refused why) name = []
 
 -- whether that part is a text: not "when there is no NUL or the part is not well-formed UTF-8"
 unfoldable pub hasTextBefore : Answer ℕ → List ℕ → Bool
-hasTextBefore (given next) name = wellFormed (partBefore (given next) name)
+hasTextBefore (ok next) name = wellFormed (partBefore (ok next) name)
 hasTextBefore (refused why) name = false
 
 -- whether a name has a text, an empty one too

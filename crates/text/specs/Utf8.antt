@@ -1,4 +1,4 @@
--- The Unicode Standard, table 3-7, "Well-Formed UTF-8 Byte Sequences". Assumes nothing.
+-- The Unicode Standard, table 3-7, "Well-Formed UTF-8 Byte Sequences".
 use mathlib.Core.Path.{_≡_}
 use mathlib.Core.Bool.{Bool, true, false, _&&_, cond}
 use mathlib.Core.List.{List, [], _∷_, List·Memᴰ}

@@ -1,13 +1,14 @@
 // The text of a name. Ports what `hw_name()` and its like in src/command.rs use of core: the check
 // of UTF-8 of core::str, and CStr::from_bytes_until_nul. Document 01, "Reply fields", says what
-// text a name has, and the Unicode Standard's table 3-7 what is well-formed. Assumes nothing.
+// text a name has, and the Unicode Standard's table 3-7 what is well-formed.
 ghost use mathlib.Core.Path.{_≡_};
+ghost use mathlib.Core.Bool.{_&&_};
 ghost use mathlib.Core.List.{[], _∷_};
 ghost use Prim.Native.Nat.{_<_};
 ghost use lib.ListN.{length, drop};
 ghost use Rattle.text.specs.Utf8.{range, table, within, stands, frontLength, wellFormed};
 ghost use Rattle.text.specs.Text.{hasText, textOf, FoundText};
-use names::Scan;
+use refusals::Consumed;
 
 // Whether the byte lies in a range.
 fn is_within(first: u8, last: u8, byte: u8) -> bool
@@ -27,16 +28,24 @@ fn has_one(bytes: &[u8], at: usize, first: u8, last: u8) -> bool
     }
 }
 
+// Whether what was looked for is found, and a byte of a range stands at `at`.
+fn and_one(found: bool, bytes: &[u8], at: usize, first: u8, last: u8) -> bool
+    ensures { λ r. ⌜ r ≡ (found && stands (range first last ∷ []) (drop at (now (bytes .entry)))) ⌝ }
+{
+    if found {
+        has_one(bytes, at, first, last)
+    } else {
+        false
+    }
+}
+
 // Whether two bytes stand at `at`, the first in the range a and the second in the range b.
 fn has_two(bytes: &[u8], at: usize, a_first: u8, a_last: u8, b_first: u8, b_last: u8) -> bool
     requires { ⌜ at < length (now bytes) ⌝ }
     ensures { λ r. ⌜ r ≡ stands (range «a_first» «a_last» ∷ range «b_first» «b_last» ∷ []) (drop at (now (bytes .entry))) ⌝ }
 {
-    if has_one(bytes, at, a_first, a_last) {
-        has_one(bytes, at + 1, b_first, b_last)
-    } else {
-        false
-    }
+    let one = has_one(bytes, at, a_first, a_last);
+    and_one(one, bytes, at + 1, b_first, b_last)
 }
 
 // The same of three bytes, the third in 80..BF as in each row of the table.
@@ -44,11 +53,8 @@ fn has_three(bytes: &[u8], at: usize, a_first: u8, a_last: u8, b_first: u8, b_la
     requires { ⌜ at < length (now bytes) ⌝ }
     ensures { λ r. ⌜ r ≡ stands (range «a_first» «a_last» ∷ range «b_first» «b_last» ∷ range 0x80 0xBF ∷ []) (drop at (now (bytes .entry))) ⌝ }
 {
-    if has_two(bytes, at, a_first, a_last, b_first, b_last) {
-        has_one(bytes, at + 2, 0x80, 0xBF)
-    } else {
-        false
-    }
+    let two = has_two(bytes, at, a_first, a_last, b_first, b_last);
+    and_one(two, bytes, at + 2, 0x80, 0xBF)
 }
 
 // The same of four bytes, the third and the fourth in 80..BF.
@@ -56,11 +62,8 @@ fn has_four(bytes: &[u8], at: usize, a_first: u8, a_last: u8, b_first: u8, b_las
     requires { ⌜ at < length (now bytes) ⌝ }
     ensures { λ r. ⌜ r ≡ stands (range «a_first» «a_last» ∷ range «b_first» «b_last» ∷ range 0x80 0xBF ∷ range 0x80 0xBF ∷ []) (drop at (now (bytes .entry))) ⌝ }
 {
-    if has_three(bytes, at, a_first, a_last, b_first, b_last) {
-        has_one(bytes, at + 3, 0x80, 0xBF)
-    } else {
-        false
-    }
+    let three = has_three(bytes, at, a_first, a_last, b_first, b_last);
+    and_one(three, bytes, at + 3, 0x80, 0xBF)
 }
 
 // How long the table's sequence at `at` is, 0 where none stands there: a test a row, in its order.
@@ -124,13 +127,13 @@ fn find_text(name: &[u8]) -> TextPart
     ensures { λ r. ⌜ FoundText (now (name .entry)) (r .has) (r .size) ⌝ }
 {
     match names::find_nul(name, 0, name.len()) {
-        Scan::Found(next) => {
+        Consumed::To(next) => {
             let end = next - 1;
             let has = well_formed(&name[..end]);
             let size = if has { end } else { 0 };
             TextPart { has, size }
         }
-        Scan::Refused(_) => TextPart {
+        Consumed::Refused(_) => TextPart {
             has: false,
             size: 0,
         },

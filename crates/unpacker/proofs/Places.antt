@@ -1,4 +1,4 @@
--- Where a read leaves the position. Assumes nothing.
+-- Where a read leaves the position.
 use mathlib.Core.Path.{_≡_, _∙_, sym, ap}
 use mathlib.Core.Bool.{Bool, true, false, cond}
 use mathlib.Core.List.{List, [], _∷_}
@@ -7,12 +7,13 @@ use native.Mathlib.Omega.{arith}
 use lib.Dec.{eqb}
 use lib.ListN.{length, drop, length-drop}
 use borrow.Author.Tests.{eq-eqb, ne-eqb, lt-ltb, le-ltb}
-use Rattle.refusals.specs.Refusals.{Refusal, Answer, given, refused, decodeRefusal, incompleteData}
+use Rattle.refusals.specs.Refusals.{Refusal, Answer, ok, refused, decodeRefusal, incompleteData}
 use Rattle.refusals.specs.declared.DecodeError.{DecodeError}
 use Rattle.refusals.proofs.Different.{none}
-use Rattle.names.specs.declared.Scan.{Scan}
-use Rattle.names.specs.declared.Scan.the-variants.{Found, Refused}
-use Rattle.names.specs.Names.{Name, scanned, nulWithin, nameAt}
+use Rattle.refusals.specs.declared.Consumed.{Consumed}
+use Rattle.refusals.specs.declared.Consumed.the-variants.{To, Refused}
+use Rattle.names.specs.Names.{Name, nulWithin, nameAt}
+use Rattle.refusals.specs.Refusals.{consumed}
 use Rattle.unpacker.specs.Unpacker.{Read, number, placeAfter, nameEnd, nameRead}
 
 -- a number's answer, and the place that follows from it, are the number's read
@@ -22,7 +23,7 @@ pub number-read
 number-read pos e f = λ i. record { answer = e i; place = (f ∙ ap (λ (a : Answer _). placeAfter a pos) e) i }
 
 -- a choice between a place and an answer that is refused is refused by the answer
-picked : (b : Bool) (next : ℕ) (on : Answer ℕ) (why : Refusal) → cond b (given next) on ≡ refused why → on ≡ refused why
+picked : (b : Bool) (next : ℕ) (on : Answer ℕ) (why : Refusal) → cond b (ok next) on ≡ refused why → on ≡ refused why
 picked true next on why e = none (cc)
 picked false next on why e = e
 
@@ -37,7 +38,7 @@ room-seen (suc room) (byte ∷ left) place why e other =
 
 module _ (room : ℕ) (s : List ℕ) (pos : ℕ) where
   -- a name that is found ends after its NUL
-  pub name-ends-after : {scan : Scan} {next : ℕ} → scan ≡ Found next → next ≡ nameEnd room s pos (scanned scan)
+  pub name-ends-after : {scan : Consumed} {next : ℕ} → scan ≡ To next → next ≡ nameEnd room s pos (consumed scan)
   unfolding nameEnd
   name-ends-after found = rw found
 
@@ -48,20 +49,20 @@ module _ (room : ℕ) (s : List ℕ) (pos : ℕ) where
   name-read e f = λ i. record { answer = e i; place = (f ∙ ap (λ (n : Name). nameEnd room s pos (n .answer)) e) i }
 
   -- a name that is refused as e, of the number n
-  module _ {scan : Scan} {e : DecodeError} {n : ℕ} (told : scan ≡ Refused e) (is : n ≡ decodeRefusal e .number) where
-    pub name-room : scanned scan ≡ nameAt room s pos .answer → (n ≡ 1 → ⊥) → room ≤ length s - pos
+  module _ {scan : Consumed} {e : DecodeError} {n : ℕ} (told : scan ≡ Refused e) (is : n ≡ decodeRefusal e .number) where
+    pub name-room : consumed scan ≡ nameAt room s pos .answer → (n ≡ 1 → ⊥) → room ≤ length s - pos
     unfolding nameAt
     name-room answer other =
-        simp length-drop at (room-seen room (drop pos s) pos (decodeRefusal e) (sym answer ∙ ap scanned told) (λ z. other (is ∙ z)))
+        simp length-drop at (room-seen room (drop pos s) pos (decodeRefusal e) (sym answer ∙ ap consumed told) (λ z. other (is ∙ z)))
 
-    pub ends-after-room : (n ≡ 1 → ⊥) → pos + room ≡ nameEnd room s pos (scanned scan)
+    pub ends-after-room : (n ≡ 1 → ⊥) → pos + room ≡ nameEnd room s pos (consumed scan)
     unfolding nameEnd
     ends-after-room other = rw (told, ← is, ne-eqb n 1 other)
 
-    pub ends-at-end : n ≡ 1 → pos < length s → length s ≡ nameEnd room s pos (scanned scan)
+    pub ends-at-end : n ≡ 1 → pos < length s → length s ≡ nameEnd room s pos (consumed scan)
     unfolding nameEnd
     ends-at-end one inside = rw (told, ← is, eq-eqb n 1 one, lt-ltb pos (length s) inside)
 
-    pub ends-past-end : n ≡ 1 → length s ≤ pos → pos ≡ nameEnd room s pos (scanned scan)
+    pub ends-past-end : n ≡ 1 → length s ≤ pos → pos ≡ nameEnd room s pos (consumed scan)
     unfolding nameEnd
     ends-past-end one past = rw (told, ← is, eq-eqb n 1 one, le-ltb pos (length s) past)

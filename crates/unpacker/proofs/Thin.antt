@@ -1,5 +1,5 @@
 -- What the walks of the thin methods share, whatever else a method holds: the borrowed `Unpacker` is opened and closed again at another position; it is
--- Copy, so that what it owns gives what a step asks, and is kept; and a step's answer is taken. Assumes nothing.
+-- Copy, so that what it owns gives what a step asks, and is kept; and a step's answer is taken.
 use mathlib.Core.Path.{_≡_, refl}
 use Prim.Native.Nat.{ℕ, _<_, _^_}
 use mathlib.Core.List.{List, [], _∷_}

@@ -1,5 +1,5 @@
 -- The thin `Unpacker` of document 01, "Port order and change of shape": "Last, a thin `Unpacker` over the lent frame as in the Rust." What a read at its
--- position answers, and where it leaves it: `consume` and `unpack_c_string` of src/packer.rs. Assumes nothing.
+-- position answers, and where it leaves it: `consume` and `unpack_c_string` of src/packer.rs.
 use mathlib.Core.Path.{_≡_}
 use mathlib.Core.Bool.{cond}
 use mathlib.Core.List.{List}
@@ -8,8 +8,8 @@ use lib.Dec.{eqb, ltb}
 use lib.Ieee.{Float}
 use lib.ListN.{length}
 use denote.Ref.{RefT, now}
-use Rattle.refusals.specs.Refusals.{Answer, given, refused}
-use Rattle.packer.specs.Reading.{unsignedAt, scaledAt, unpackedU8, unpackedU32, unpackedF32}
+use Rattle.refusals.specs.Refusals.{Answer, ok, refused}
+use Rattle.packer.specs.Unpacking.{unsignedAt, scaledAt, unpackedU8, unpackedU32, unpackedF32}
 use Rattle.names.specs.Names.{Name, nameAt, named39}
 use Rattle.unpacker.specs.declared.Unpacker.{Unpacker}
 use Rattle.unpacker.specs.declared.StepU8.{StepU8}
@@ -24,7 +24,7 @@ pub record Read (X : Type 0) : Type 0 where
 
 -- where a number leaves the position: after its bytes; a refused one consumes nothing
 abbrev pub placeAfter : {A : Type 0} → Answer (A × ℕ) → ℕ → ℕ
-placeAfter (given (value, next)) pos = next
+placeAfter (ok (value, next)) pos = next
 placeAfter (refused why) pos = pos
 
 -- the read of a number, by what it answers
@@ -42,7 +42,7 @@ scaledRead width scale s pos = number (scaledAt width scale s pos) pos
 -- where a name of so much room leaves the position: after its NUL. "A read past the end of the slice is 1": at the end, or where it was, past that
 -- already. "2 for a name without NUL": after its room
 unfoldable pub nameEnd : ℕ → List ℕ → ℕ → Answer ℕ → ℕ
-nameEnd room s pos (given next) = next
+nameEnd room s pos (ok next) = next
 nameEnd room s pos (refused why) = cond (eqb (why .number) 1) (cond (ltb pos (length s)) (length s) pos) (pos + room)
 
 -- the read of a name
@@ -71,6 +71,6 @@ abbrev pub moved : Unpacker → ℕ → Unpacker
 moved u place = record { buf = u .buf; pos = place }
 
 -- a read where the Unpacker u stands: what is answered, and what the Unpacker then is
-pub record Reads {X : Type 0} (read : List ℕ → ℕ → Read X) (u : Unpacker) (answer : X) (after : Unpacker) : Type 0 where
+pub record ReadIs {X : Type 0} (read : List ℕ → ℕ → Read X) (u : Unpacker) (answer : X) (after : Unpacker) : Type 0 where
   pub answers : answer ≡ read (now (u .buf)) (u .pos) .answer
   pub leaves : after ≡ moved u (read (now (u .buf)) (u .pos) .place)

@@ -1,16 +1,18 @@
 // A thin `Unpacker` over a lent slice: the slice, and the position of the next read. Ports `Unpacker`
 // of src/packer.rs: `new`, and of its methods one of each sort, a byte, a 32-bit number, a scaled number
 // and a name of 39. Each method takes it apart, calls a step on the slice and the position, and
-// stores the position that came back. Assumes nothing.
+// stores the position that came back.
 ghost use mathlib.Core.Path.{_≡_};
-ghost use Rattle.packer.specs.Reading.{unpackedU8, unpackedU32, unpackedF32};
-ghost use Rattle.names.specs.Names.{nameAt, scanned, named39};
-ghost use Rattle.unpacker.specs.Unpacker.{fresh, placeAfter, nameEnd, unsignedRead, scaledRead, nameRead, stepU8, stepU32, stepF32, stepName39, Reads};
+ghost use Rattle.packer.specs.Unpacking.{unpackedU8, unpackedU32, unpackedF32};
+ghost use Rattle.names.specs.Names.{nameAt, named39};
+ghost use Rattle.refusals.specs.Refusals.{consumed};
+ghost use Rattle.format.specs.Format.{nameRoom};
+ghost use Rattle.unpacker.specs.Unpacker.{fresh, placeAfter, nameEnd, unsignedRead, scaledRead, nameRead, stepU8, stepU32, stepF32, stepName39, ReadIs};
 use names::Name39;
-use names::Scan;
 use packer::UnpackedF32;
 use packer::UnpackedU8;
 use packer::UnpackedU32;
+use refusals::Consumed;
 
 pub struct Unpacker<'a> {
     pub buf: &'a [u8],
@@ -69,13 +71,13 @@ fn after_f32(answer: UnpackedF32, pos: usize) -> usize
 
 // Where the Rust's loop over a name stops. A refusal that is not for want of bytes has seen all the
 // room, so that the sum fits.
-fn name_end(scan: Scan, buf: &[u8], pos: usize, room: usize) -> usize
-    requires { ⌜ scanned scan ≡ nameAt room (now buf) pos .answer ⌝ }
-    ensures { λ r. ⌜ r ≡ nameEnd room (now (buf .entry)) pos (scanned scan) ⌝ }
+fn name_end(scan: Consumed, buf: &[u8], pos: usize, room: usize) -> usize
+    requires { ⌜ consumed scan ≡ nameAt room (now buf) pos .answer ⌝ }
+    ensures { λ r. ⌜ r ≡ nameEnd room (now (buf .entry)) pos (consumed scan) ⌝ }
 {
     match scan {
-        Scan::Found(next) => next,
-        Scan::Refused(e) => {
+        Consumed::To(next) => next,
+        Consumed::Refused(e) => {
             if e.number() != 1 {
                 return pos + room;
             }
@@ -112,11 +114,11 @@ pub fn step_f32(buf: &[u8], pos: usize, scale: f32) -> StepF32
 }
 
 pub fn step_c_string_39(buf: &[u8], pos: usize) -> StepName39
-    ensures { λ r. ⌜ stepName39 r ≡ nameRead 39 (now (buf .entry)) pos ⌝ }
+    ensures { λ r. ⌜ stepName39 r ≡ nameRead nameRoom (now (buf .entry)) pos ⌝ }
 {
     let answer = names::unpack_c_string_39(buf, pos);
     let scan = answer.answer;
-    let next = name_end(scan, buf, pos, 39);
+    let next = name_end(scan, buf, pos, format::FW_VERSION_NAME_MAX_LEN);
     StepName39 { answer, pos: next }
 }
 
@@ -128,7 +130,7 @@ impl<'a> Unpacker<'a> {
     }
 
     pub fn unpack_u8(&mut self) -> UnpackedU8
-        ensures { λ r. ⌜ Reads (unsignedRead 1) (now (self .entry)) (unpackedU8 r) (now (self .exit)) ⌝ }
+        ensures { λ r. ⌜ ReadIs (unsignedRead 1) (now (self .entry)) (unpackedU8 r) (now (self .exit)) ⌝ }
     {
         let buf = self.buf;
         let pos = self.pos;
@@ -138,7 +140,7 @@ impl<'a> Unpacker<'a> {
     }
 
     pub fn unpack_u32(&mut self) -> UnpackedU32
-        ensures { λ r. ⌜ Reads (unsignedRead 4) (now (self .entry)) (unpackedU32 r) (now (self .exit)) ⌝ }
+        ensures { λ r. ⌜ ReadIs (unsignedRead 4) (now (self .entry)) (unpackedU32 r) (now (self .exit)) ⌝ }
     {
         let buf = self.buf;
         let pos = self.pos;
@@ -148,7 +150,7 @@ impl<'a> Unpacker<'a> {
     }
 
     pub fn unpack_f32(&mut self, scale: f32) -> UnpackedF32
-        ensures { λ r. ⌜ Reads (scaledRead 4 scale) (now (self .entry)) (unpackedF32 r) (now (self .exit)) ⌝ }
+        ensures { λ r. ⌜ ReadIs (scaledRead 4 scale) (now (self .entry)) (unpackedF32 r) (now (self .exit)) ⌝ }
     {
         let buf = self.buf;
         let pos = self.pos;
@@ -159,7 +161,7 @@ impl<'a> Unpacker<'a> {
 
     // The Rust's `unpack_c_string` at 39, the room of FwVersion's names.
     pub fn unpack_c_string_39(&mut self) -> Name39
-        ensures { λ r. ⌜ Reads (nameRead 39) (now (self .entry)) (named39 r) (now (self .exit)) ⌝ }
+        ensures { λ r. ⌜ ReadIs (nameRead nameRoom) (now (self .entry)) (named39 r) (now (self .exit)) ⌝ }
     {
         let buf = self.buf;
         let pos = self.pos;

@@ -3,10 +3,11 @@ ghost use mathlib.Core.Path.{_≡_};
 ghost use lib.ListN.{length};
 use crate::says;
 use command::Command;
-use envelope::Judged;
-use frame::Encoded;
+use encode::Encoded;
+use refusals::Consumed;
 
-fn count(n: usize) {
+fn line(word: &[u8], n: usize) {
+    says::text(word);
     says::decimal(n as u64);
     says::text(b"\n");
 }
@@ -14,27 +15,15 @@ fn count(n: usize) {
 // The number of bytes written, or document 01's number of the refusal.
 fn encoded(answer: Encoded) {
     match answer {
-        Encoded::Written(n) => {
-            says::text(b"written ");
-            count(n);
-        }
-        Encoded::Refused(e) => {
-            says::text(b"refused ");
-            count(e.number() as usize);
-        }
+        Encoded::Written(n) => line(b"written ", n),
+        Encoded::Refused(e) => line(b"refused ", e.number() as usize),
     }
 }
 
-fn judged(answer: Judged) {
+fn judged(answer: Consumed) {
     match answer {
-        Judged::Good(n) => {
-            says::text(b"good ");
-            count(n);
-        }
-        Judged::Refused(e) => {
-            says::text(b"refused ");
-            count(e.number() as usize);
-        }
+        Consumed::To(n) => line(b"good ", n),
+        Consumed::Refused(e) => line(b"refused ", e.number() as usize),
     }
 }
 
@@ -53,7 +42,7 @@ fn bytes(all: &[u8]) {
 
 pub(crate) fn fw_version() {
     let mut buf = [0u8; 6];
-    let answer = frame::encode(Command::FwVersion, b"", &mut buf);
+    let answer = encode::encode(Command::FwVersion, b"", &mut buf);
     says::text(b"FwVersion: ");
     bytes(&buf);
     encoded(answer);
@@ -78,7 +67,7 @@ fn behind(sent: Command, count: usize) {
     if 300 < count {
         return;
     }
-    encoded(frame::encode(sent, &all[..count], &mut buf));
+    encoded(encode::encode(sent, &all[..count], &mut buf));
 }
 
 pub(crate) fn hops_before_alive() {
@@ -95,7 +84,7 @@ pub(crate) fn hops_before_set_rpm() {
 
 fn behind_all(all: &[u8; 1000000]) {
     let mut buf = room();
-    encoded(frame::encode(Command::Alive, all, &mut buf));
+    encoded(encode::encode(Command::Alive, all, &mut buf));
 }
 
 // Refused before any recursion over the hops.
@@ -121,7 +110,7 @@ fn unending(declared: u8, id: u8) -> [u8; 60]
 fn front(declared: u8, id: u8, count: usize) {
     let all = unending(declared, id);
     if count <= 60 {
-        judged(envelope::judge(&all[..count]));
+        judged(judge::judge(&all[..count]));
     }
 }
 

@@ -3,7 +3,7 @@
 // An encode behind a million hops is added.
 mod frames;
 mod says;
-mod stream;
+mod worked;
 
 fn check_value() {
     says::text(b"checksum of 123456789: ");
@@ -29,5 +29,5 @@ fn main() {
     frames::million_hops();
     frames::name_in_fw_version();
     frames::name_in_fw_info();
-    stream::worked();
+    worked::stream();
 }

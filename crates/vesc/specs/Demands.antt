@@ -1,7 +1,7 @@
 -- The three demands of the person we build for, each with its words, as a record whose fields are the claims.
 -- They are claims about whatever meets the contracts of the public functions, and about the definitions that
 -- these contracts cite. proofs/Demands.antt proves each record. docs/FORMAT.md has document 01's rules in our
--- words, and the glossary; README.md has the notation. Assumes nothing.
+-- words, and the glossary; README.md has the notation.
 use mathlib.Core.Path.{_≡_}
 use mathlib.Core.Bool.{Bool, true}
 use mathlib.Core.Logic.{_↔_}
@@ -9,8 +9,9 @@ use mathlib.Core.List.{List, [], _∷_, _++_}
 use Prim.Native.Nat.{ℕ, _+_, _-_, _^_, _≤_, _<_}
 use lib.IntN.{ℤ}
 use lib.Ieee.{binary32, ofInt}
-use lib.ListN.{length, getD, take, drop}
-use Rattle.refusals.specs.Refusals.{Answer, given, refused, incompleteData, invalidFrame, unknownPacket, checksumMismatch, bufferTooSmall, payloadTooLong}
+use lib.ListN.{length, take, drop}
+use Rattle.refusals.specs.Refusals.{Answer, ok, refused, consumed, incompleteData, invalidFrame, unknownPacket, checksumMismatch}
+use Rattle.refusals.specs.Refusals.{bufferTooSmall, payloadTooLong}
 use Rattle.refusals.specs.declared.EncodeError.{EncodeError}
 use Rattle.refusals.specs.declared.DecodeError.{DecodeError}
 use Rattle.checksum.specs.Xmodem.{checksumOf, registerOf}
@@ -18,28 +19,31 @@ use Rattle.floats.specs.Near.{ReadingNear, size}
 use Rattle.floats.specs.Nearest.{NearestEven}
 use Rattle.text.specs.Utf8.{wellFormed, WellFormed}
 use Rattle.text.specs.Text.{hasText, textOf, TextOfName}
-use Rattle.packer.specs.Numbers.{beAt}
 use Rattle.packer.specs.Nearness.{Bytes}
-use Rattle.frame.specs.Frame.{payloadOf}
-use Rattle.frame.specs.Encode.{Encodes, encoded}
+use Rattle.encode.specs.Payload.{payloadOf}
+use Rattle.encode.specs.Encode.{EncodeIs, encoded}
 use Rattle.command.specs.declared.Command.{Command}
-use Rattle.frame.specs.declared.Encoded.{Encoded}
-use Rattle.frame.specs.declared.Encoded.the-variants.{Refused}
-use Rattle.envelope.specs.Envelope.{fieldsEnd, payloadPart, judged}
-use Rattle.envelope.specs.declared.Judged.the-variants as Judged
+use Rattle.encode.specs.declared.Encoded.{Encoded}
+use Rattle.encode.specs.declared.Encoded.the-variants.{Refused}
+use Rattle.format.specs.Format.{frameStart, frameEnd, payloadAt, frameExtra, payloadMax}
+use Rattle.frame.specs.Frame.{short, frameSize, startByte, declared, payloadIn, carried, endByte}
+use Rattle.layout.specs.Replies.{replies, NoneOf, fieldsEnd}
+use Rattle.judge.specs.Good.{idByte, GoodFrame}
+use Rattle.refusals.specs.declared.Consumed.the-variants as Consumed
 use Rattle.reply.specs.Decode.{decodeOf, decoded}
 use Rattle.reply.specs.Nearness.{RecordsNear}
 use Rattle.reply.specs.declared.Decoded.{Decoded}
 use Rattle.reply.specs.Reply.{emptyReply}
 use Rattle.reply.specs.declared.CommandReply.{CommandReply}
-use Rattle.reading.specs.Reading.{Reading, reading, Reads, repliesOf, joined, takes}
-use Rattle.reading.specs.Lateness.{NoneOver}
-use Rattle.line.specs.Runs.{Nonempty, GivenSoFar}
+use Rattle.stream.specs.Reading as verdict
+use Rattle.stream.specs.Reading.{Reading, readAll, Reads, repliesOf, joined}
+use Rattle.stream.specs.Lateness.{NoneOver}
+use Rattle.buffer.specs.Runs.{Nonempty, GivenSoFar}
 use Rattle.decoder.specs.declared.Decoder.{Decoder}
 use Rattle.decoder.specs.declared.Fed.{Fed}
 use Rattle.decoder.specs.declared.Figures.{Figures}
-use Rattle.decoder.specs.Frames.{frames}
-use Rattle.decoder.specs.State.{lineOf, figuresOf, FeedIs}
+use Rattle.decoder.specs.Judge.{decodeJudge}
+use Rattle.decoder.specs.State.{bufferOf, figuresOf, FeedIs}
 use Rattle.decoder.specs.Runs.{Run, PlainRun, Ends, Reached}
 
 -- "1. No call traps, hangs or relies on its caller. IncompleteData, InvalidFrame, UnknownPacket, ChecksumMismatch,
@@ -50,53 +54,48 @@ use Rattle.decoder.specs.Runs.{Run, PlainRun, Ends, Reached}
 
 -- `encode` of a command behind hops returned r, and `after` is what the buffer then holds
 pub record EncodeRefuses (command : Command) (hops buffer : List ℕ) (r : Encoded) (after : List ℕ) : Type 0 where
-  pub too-long : (encoded r ≡ refused payloadTooLong) ↔ (255 < length (payloadOf command hops))
-  pub too-small : (encoded r ≡ refused bufferTooSmall) ↔ ((length (payloadOf command hops) ≤ 255) × (length buffer < length (payloadOf command hops) + 5))
+  pub too-long : (encoded r ≡ refused payloadTooLong) ↔ (payloadMax < length (payloadOf command hops))
+  pub too-small
+      : (encoded r ≡ refused bufferTooSmall)
+      ↔ ((length (payloadOf command hops) ≤ payloadMax) × (length buffer < length (payloadOf command hops) + frameExtra))
   pub fits
-      : (encoded r ≡ given (length (payloadOf command hops) + 5)) ↔ ((length (payloadOf command hops) ≤ 255) × (length (payloadOf command hops) + 5 ≤ length buffer))
+      : (encoded r ≡ ok (length (payloadOf command hops) + frameExtra))
+      ↔ ((length (payloadOf command hops) ≤ payloadMax) × (length (payloadOf command hops) + frameExtra ≤ length buffer))
   pub unchanged : (e : EncodeError) → r ≡ Refused e → after ≡ buffer
 
--- the sum that a frame carries, and that of its payload; the length byte says where they are
-abbrev pub carried : List ℕ → ℕ
-carried s = beAt s (getD s 1 0 + 2) 2
+-- where the fields that follow the id end: they are read in all that follows it, by the reply's layout (layout/specs/Replies.antt)
+abbrev pub fieldsRead : List ℕ → Answer ℕ
+fieldsRead s = fieldsEnd (idByte s) (drop payloadAt s) 1
 
+-- the sum of the payload
 abbrev pub summed : List ℕ → ℕ
-summed s = checksumOf (payloadPart (getD s 1 0) s)
+summed s = checksumOf (payloadIn short s)
 
--- the start byte is right, and the fields end where the length byte says
+-- the start byte is right, and the fields end where the length says
 pub record Fields (s : List ℕ) : Type 0 where
-  pub there : 2 < length s
-  pub start : getD s 0 0 ≡ 2
-  pub read : fieldsEnd (getD s 2 0) (drop 2 s) 1 ≡ given (getD s 1 0)
+  pub there : payloadAt < length s
+  pub start : startByte short s ≡ frameStart
+  pub read : fieldsRead s ≡ ok (declared short s)
 
--- "the seven replies": their ids
-abbrev pub replyIds : List ℕ
-replyIds = 0 ∷ 4 ∷ 50 ∷ 51 ∷ 128 ∷ 129 ∷ 157 ∷ []
-
--- an id that is none of them
-abbrev pub NoneOf : List ℕ → ℕ → Type 0
-NoneOf [] id = Unit
-NoneOf (known ∷ others) id = (id ≡ known → ⊥) × NoneOf others id
-
--- The ways that `decode` of a slice s can go, in document 01's order. `getD s 1 0`, the length byte, is document 01's n.
--- `drop 2 s` begins with the payload: the id, and from its place 1 on the fields. `fieldsEnd` reads them by document 01's
--- tables (envelope/specs/Envelope.antt, fields/specs/Fields.antt) and gives the place after them, the id counted too.
+-- The ways that `decode` of a slice s can go, in document 01's order. `declared short s` is document 01's n; the other parts of a frame
+-- are in frame/specs/Frame.antt, and what makes it a good one in judge/specs/Good.antt.
 pub data Way (s : List ℕ) : Type 0 where
   no-start : length s ≤ 0 → Way s
-  start-wrong : 0 < length s → (getD s 0 0 ≡ 2 → ⊥) → Way s
-  no-length : 0 < length s → getD s 0 0 ≡ 2 → length s ≤ 1 → Way s
-  no-id : 1 < length s → getD s 0 0 ≡ 2 → length s ≤ 2 → Way s
+  start-wrong : 0 < length s → (startByte short s ≡ frameStart → ⊥) → Way s
+  no-length : 0 < length s → startByte short s ≡ frameStart → length s ≤ 1 → Way s
+  no-id : 1 < length s → startByte short s ≡ frameStart → length s ≤ payloadAt → Way s
   -- "id (3 if not one of the seven replies, known command ids included)"
-  unknown-id : 2 < length s → getD s 0 0 ≡ 2 → NoneOf replyIds (getD s 2 0) → Way s
+  unknown-id : payloadAt < length s → startByte short s ≡ frameStart → NoneOf replies (idByte s) → Way s
   -- "A read past the end of the slice is 1"; "2 for a name without NUL"
-  no-field : 2 < length s → getD s 0 0 ≡ 2 → fieldsEnd (getD s 2 0) (drop 2 s) 1 ≡ refused incompleteData → Way s
-  no-nul : 2 < length s → getD s 0 0 ≡ 2 → fieldsEnd (getD s 2 0) (drop 2 s) 1 ≡ refused invalidFrame → Way s
-  length-wrong : 2 < length s → getD s 0 0 ≡ 2 → (read : ℕ) → fieldsEnd (getD s 2 0) (drop 2 s) 1 ≡ given read → (getD s 1 0 ≡ read → ⊥) → Way s
-  -- the fields end where the length byte says, after n bytes; then "two checksum bytes; end byte (2); checksum (4)"
-  no-end : Fields s → length s < getD s 1 0 + 5 → Way s
-  end-wrong : Fields s → getD s 1 0 + 5 ≤ length s → (getD s (getD s 1 0 + 4) 0 ≡ 3 → ⊥) → Way s
-  sum-wrong : Fields s → getD s 1 0 + 5 ≤ length s → getD s (getD s 1 0 + 4) 0 ≡ 3 → (carried s ≡ summed s → ⊥) → Way s
-  good : Fields s → getD s 1 0 + 5 ≤ length s → getD s (getD s 1 0 + 4) 0 ≡ 3 → carried s ≡ summed s → Way s
+  no-field : payloadAt < length s → startByte short s ≡ frameStart → fieldsRead s ≡ refused incompleteData → Way s
+  no-nul : payloadAt < length s → startByte short s ≡ frameStart → fieldsRead s ≡ refused invalidFrame → Way s
+  length-wrong
+      : payloadAt < length s → startByte short s ≡ frameStart → (read : ℕ) → fieldsRead s ≡ ok read → (declared short s ≡ read → ⊥) → Way s
+  -- the fields end where the length says; then "two checksum bytes; end byte (2); checksum (4)"
+  no-end : Fields s → length s < frameSize short (declared short s) → Way s
+  end-wrong : Fields s → frameSize short (declared short s) ≤ length s → (endByte short s ≡ frameEnd → ⊥) → Way s
+  sum-wrong : Fields s → frameSize short (declared short s) ≤ length s → endByte short s ≡ frameEnd → (carried short s ≡ summed s → ⊥) → Way s
+  good : GoodFrame s → Way s
 
 -- and what it then answers
 abbrev pub answerOf : {s : List ℕ} → Way s → Answer ℕ
@@ -104,25 +103,27 @@ answerOf (no-start h) = refused incompleteData
 answerOf (start-wrong h differs) = refused invalidFrame
 answerOf (no-length h start past) = refused incompleteData
 answerOf (no-id h start past) = refused incompleteData
-answerOf {s} (unknown-id h start none-of) = refused (unknownPacket (getD s 2 0))
+answerOf {s} (unknown-id h start none-of) = refused (unknownPacket (idByte s))
 answerOf (no-field h start e) = refused incompleteData
 answerOf (no-nul h start e) = refused invalidFrame
 answerOf (length-wrong h start read e differs) = refused invalidFrame
 answerOf (no-end f past) = refused incompleteData
 answerOf (end-wrong f there differs) = refused invalidFrame
-answerOf {s} (sum-wrong f there end differs) = refused (checksumMismatch (carried s) (summed s))
-answerOf {s} (good f there end same) = given (getD s 1 0 + 5)
+answerOf {s} (sum-wrong f there end differs) = refused (checksumMismatch (carried short s) (summed s))
+answerOf {s} (good frame) = ok (frameSize short (declared short s))
 
 -- `decode` of a slice s returned d. The slice goes one of the ways, and d's answer is the one of each way that it goes:
 -- so each refusal comes exactly when document 01 says.
 pub record DecodeRefuses (s : List ℕ) (d : Decoded) : Type 0 where
   pub goes : Way s
-  pub answer : (way : Way s) → judged (d .answer) ≡ answerOf way
+  pub answer : (way : Way s) → consumed (d .answer) ≡ answerOf way
   -- "all of them on a refusal": the reply is then the empty one
-  pub empty : (e : DecodeError) → d .answer ≡ Judged.Refused e → d .reply ≡ emptyReply
+  pub empty : (e : DecodeError) → d .answer ≡ Consumed.Refused e → d .reply ≡ emptyReply
 
 pub record DemandOne : Type 0 where
-  pub encode : (command : Command) (hops buffer : List ℕ) (r : Encoded) (after : List ℕ) → Encodes command hops buffer r after → EncodeRefuses command hops buffer r after
+  pub encode
+      : (command : Command) (hops buffer : List ℕ) (r : Encoded) (after : List ℕ) → EncodeIs command hops buffer r after
+      → EncodeRefuses command hops buffer r after
   pub decode : (s : List ℕ) (d : Decoded) → decoded d ≡ decodeOf s → DecodeRefuses s d
 
 -- "2. Within document 01's domain, bytes, readings and refusals equal the Rust's. Checksum, float rounding and name
@@ -142,7 +143,7 @@ pub record DemandTwo : Type 0 where
   pub rounding : (raw : ℤ) (scale : ℕ) → size raw ≤ 2 ^ 31 → 0 < scale → scale ≤ 2 ^ 24 → ReadingNear raw scale
   -- The same of a record: if `decode` returned d for a good frame, each scaled field of its record is that near to the
   -- number that the frame's bytes hold at the field's place, over the scale
-  pub readings : (s : List ℕ) → Bytes s → (d : Decoded) → decoded d ≡ decodeOf s → (count : ℕ) → d .answer ≡ Judged.Good count → RecordsNear s (d .reply)
+  pub readings : (s : List ℕ) → Bytes s → (d : Decoded) → decoded d ≡ decodeOf s → (count : ℕ) → d .answer ≡ Consumed.To count → RecordsNear s (d .reply)
   -- Unicode's table 3-7
   pub text : (bytes : List ℕ) → (wellFormed bytes ≡ true) ↔ WellFormed bytes
   -- `has_text` and `text` of a name returned `has` and `part`: the name has a text exactly if it has a first NUL and the
@@ -157,37 +158,41 @@ pub record DemandTwo : Type 0 where
 -- `Run pieces ahead taken replies d` is that use of the decoder, at its start or after some `next` that gave nothing, also
 -- one in the middle of a piece: `pieces` is the cutting, `ahead` are the pieces still to be offered, `taken` the bytes
 -- taken in so far, `replies` the replies so far, and d is the decoder then. Each call may return whatever its contract
--- allows: `Holds fresh` for `new`, `FeedIs` for `feed`, `NextIs` for `next` (decoder/specs/State.antt). `joined pieces` is
--- the uncut stream. `reading` is defined from `decode` alone. The caller may also ask again, and cut anew what is ahead; in
+-- allows: `BufferIs fresh` for `new`, `FeedIs` for `feed`, `NextIs` for `next` (decoder/specs/State.antt). `joined pieces` is
+-- the uncut stream. `readAll` is defined from `decode` alone. The caller may also ask again, and cut anew what is ahead; in
 -- a `PlainRun` it does not.
 pub record AsRead (pieces ahead : List (List ℕ)) (taken : List ℕ) (replies : List CommandReply) (d : Decoder) : Type 0 where
   -- the stream is what is taken and then what is ahead
   pub stream : joined pieces ≡ taken ++ joined ahead
   -- the replies so far are those of the reading of what is taken, in order and no others
-  pub in-order : replies ≡ repliesOf (reading frames taken .given)
+  pub in-order : replies ≡ repliesOf (readAll decodeJudge taken .frames)
   -- what that reading leaves is unread
-  pub unread : lineOf d .unread ≡ reading frames taken .rest
+  pub unread : bufferOf d .unread ≡ readAll decodeJudge taken .rest
   -- At p of the stream stands a frame that is good by its own n bytes. No earlier frame of the stream's reading reaches
   -- over p. Its last byte is taken, and so are 109 bytes counted from its first. Then its reply is among the replies, at
   -- its place
-  pub in-time : (p n : ℕ) (reply : CommandReply) → frames (take n (drop p (joined pieces))) ≡ takes n reply → NoneOver p (reading frames (joined pieces) .given)
+  pub in-time : (p n : ℕ) (reply : CommandReply) → decodeJudge (take n (drop p (joined pieces))) ≡ verdict.good n reply
+      → NoneOver p (readAll decodeJudge (joined pieces) .frames)
       → p + n ≤ length taken → p + 109 ≤ length taken
-      → GivenSoFar p n reply (reading frames (joined pieces) .given) replies
+      → GivenSoFar p n reply (readAll decodeJudge (joined pieces) .frames) replies
 
 pub record DemandThree : Type 0 where
-  -- `reading` is the one left-to-right reading: what document 01's rule comes to, and nothing else does
-  pub by-rule : (stream : List ℕ) (o : Reading CommandReply) → Reads frames 0 stream o ↔ (o ≡ reading frames stream)
+  -- `readAll` is the one left-to-right reading: what document 01's rule comes to, and nothing else does
+  pub by-rule : (stream : List ℕ) (o : Reading CommandReply) → Reads decodeJudge 0 stream o ↔ (o ≡ readAll decodeJudge stream)
   -- what every run is, at each `next` that gave nothing
-  pub as-read : {pieces ahead : List (List ℕ)} {taken : List ℕ} {replies : List CommandReply} {d : Decoder} → Run pieces ahead taken replies d → AsRead pieces ahead taken replies d
+  pub as-read : {pieces ahead : List (List ℕ)} {taken : List ℕ} {replies : List CommandReply} {d : Decoder}
+      → Run pieces ahead taken replies d → AsRead pieces ahead taken replies d
   -- Once nothing is ahead, "the replies are those of one left-to-right reading of the uncut stream"
   pub whole : {pieces : List (List ℕ)} {taken : List ℕ} {replies : List CommandReply} {d : Decoder} → Run pieces [] taken replies d
-      → replies ≡ repliesOf (reading frames (joined pieces) .given)
+      → replies ≡ repliesOf (readAll decodeJudge (joined pieces) .frames)
   -- Every cutting into nonempty pieces has a run that offers just them, and takes all
   pub exists : (pieces : List (List ℕ)) → Nonempty pieces → (replies : List CommandReply) × (d : Decoder) × PlainRun pieces [] (joined pieces) replies d
-  pub plain : {pieces ahead : List (List ℕ)} {taken : List ℕ} {replies : List CommandReply} {d : Decoder} → PlainRun pieces ahead taken replies d → Run pieces ahead taken replies d
+  pub plain : {pieces ahead : List (List ℕ)} {taken : List ℕ} {replies : List CommandReply} {d : Decoder}
+      → PlainRun pieces ahead taken replies d → Run pieces ahead taken replies d
   -- From any point of any run on, if nothing is cut anew: every call has a result, and whatever the results are, all is
   -- taken in the end
-  pub ends : {pieces ahead : List (List ℕ)} {taken : List ℕ} {replies : List CommandReply} {d : Decoder} → Run pieces ahead taken replies d → Nonempty ahead → Ends ahead d
+  pub ends : {pieces ahead : List (List ℕ)} {taken : List ℕ} {replies : List CommandReply} {d : Decoder}
+      → Run pieces ahead taken replies d → Nonempty ahead → Ends ahead d
   -- because `feed` takes a byte or more of a nonempty piece
   pub takes-some : {pieces ahead : List (List ℕ)} {taken : List ℕ} {replies : List CommandReply} {d : Decoder} → Run pieces ahead taken replies d
       → (piece : List ℕ) (fed : Fed) → 0 < length piece → FeedIs d piece fed → 0 < fed .count
@@ -196,7 +201,7 @@ pub record DemandThree : Type 0 where
 -- `Reached d`: d comes from a fresh decoder by any calls whatever, empty pieces fed too. `figures` of d returned
 -- `figures`
 pub record FiguresBalance : Type 0 where
-  pub balance : {d : Decoder} → Reached d → (figures : Figures) → figures ≡ figuresOf (lineOf d) → figures .fed < 2 ^ 64 - 1
+  pub balance : {d : Decoder} → Reached d → (figures : Figures) → figures ≡ figuresOf (bufferOf d) → figures .fed < 2 ^ 64 - 1
       → figures .fed ≡ figures .handed + figures .passed + figures .held
   -- the decoders of a run are among them
   pub in-runs : {pieces ahead : List (List ℕ)} {taken : List ℕ} {replies : List CommandReply} {d : Decoder} → Run pieces ahead taken replies d → Reached d

@@ -1,4 +1,4 @@
--- The frames that document 01, "Frames on both sides of each rule", marks P: one table, and what each row claims. Assumes nothing.
+-- The frames that document 01, "Frames on both sides of each rule", marks P: one table, and what each row claims.
 use mathlib.Core.Path.{_≡_}
 use mathlib.Core.List.{List, [], _∷_}
 use Prim.Native.Nat.{ℕ}
@@ -6,16 +6,18 @@ use mathlib.Core.Bool.{false}
 use lib.IntN.{pos, negsuc}
 use lib.Ieee.{fin, binary32, ofInt}
 use lib.ListN.{getD, drop, length, replicate}
-use Rattle.refusals.specs.Refusals.{Answer, given, refused, incompleteData, invalidFrame, unknownPacket, checksumMismatch, bufferTooSmall}
-use Rattle.floats.specs.Numbers.{readingOf}
+use Rattle.refusals.specs.Refusals.{Answer, ok, refused, incompleteData, invalidFrame, unknownPacket, checksumMismatch, bufferTooSmall}
+use Rattle.floats.specs.Numbers.{overScale}
 use Rattle.command.specs.Commands.{bytesOf}
-use Rattle.frame.specs.Frame.{payloadOf}
-use Rattle.frame.specs.Encode.{encodeAnswer, encodeAfter}
+use Rattle.encode.specs.Payload.{payloadOf}
+use Rattle.encode.specs.Encode.{encodeAnswer, encodeAfter}
 use Rattle.command.specs.declared.Command.{Command}
 use Rattle.command.specs.declared.Command.the-variants.{GetValues, Alive, SetRpm, SetCurrent}
-use Rattle.fields.specs.Fields.{valuesTable, rawsAt}
-use Rattle.records.specs.Records.{valuesOf}
-use Rattle.reply.specs.Reply.{kindNumber, maskOf}
+use Rattle.format.specs.Format.{payloadAt}
+use Rattle.layout.specs.Layout.{raws}
+use Rattle.layout.specs.Replies.{selective}
+use Rattle.telemetry.specs.Telemetry.{valuesOf}
+use Rattle.reply.specs.Reply.{kindNumber}
 use Rattle.reply.specs.Decode.{decodeOf}
 
 pub data Row : Type 0 where
@@ -25,24 +27,28 @@ pub data Row : Type 0 where
   carries : Command → List ℕ → Row
   -- a slice, what `decode` answers, and the id of the reply's kind
   decodes : List ℕ → Answer ℕ → ℕ → Row
-  -- of the selective frame of a slice: the raw numbers that the walk over the table reads for rpm and voltage_in, and what they are over 1 and 10
+  -- of the selective frame of a slice: the raw numbers of rpm and voltage_in, and what they are over 1 and 10
   reads : List ℕ → ℕ → ℕ → Row
 
+-- the numbers of the fields of a selective frame
+abbrev pub selectiveRaws : List ℕ → List ℕ
+selectiveRaws slice = raws selective (drop payloadAt slice) 1 .0 .1
+
 -- what a row claims
-abbrev pub Holds : Row → Type 0
-Holds (encodes command room answer after) =
+abbrev pub Claimed : Row → Type 0
+Claimed (encodes command room answer after) =
     (encodeAnswer (length (payloadOf command [])) room ≡ answer) × (encodeAfter (payloadOf command []) (replicate room 0) ≡ after)
-Holds (carries command payload) = bytesOf command ≡ payload
-Holds (decodes slice answer id) = (decodeOf slice .answer ≡ answer) × (kindNumber (decodeOf slice .reply .kind) ≡ id)
-Holds (reads slice rpm voltage) =
-    (getD (rawsAt valuesTable (maskOf (drop 2 slice)) (drop 2 slice) 5) 7 0 ≡ rpm)
-    × (getD (rawsAt valuesTable (maskOf (drop 2 slice)) (drop 2 slice) 5) 8 0 ≡ voltage)
-    × (valuesOf (maskOf (drop 2 slice)) (rawsAt valuesTable (maskOf (drop 2 slice)) (drop 2 slice) 5) .rpm ≡ readingOf (pos rpm) (ofInt binary32 (pos 1)))
-    × (valuesOf (maskOf (drop 2 slice)) (rawsAt valuesTable (maskOf (drop 2 slice)) (drop 2 slice) 5) .«voltage_in» ≡ readingOf (pos voltage) (ofInt binary32 (pos 10)))
+Claimed (carries command payload) = bytesOf command ≡ payload
+Claimed (decodes slice answer id) = (decodeOf slice .answer ≡ answer) × (kindNumber (decodeOf slice .reply .kind) ≡ id)
+Claimed (reads slice rpm voltage) =
+    (getD (selectiveRaws slice) 7 0 ≡ rpm)
+    × (getD (selectiveRaws slice) 8 0 ≡ voltage)
+    × (valuesOf (selectiveRaws slice) .rpm ≡ overScale (pos rpm) (ofInt binary32 (pos 1)))
+    × (valuesOf (selectiveRaws slice) .«voltage_in» ≡ overScale (pos voltage) (ofInt binary32 (pos 10)))
 
 abbrev pub All : List Row → Type 0
 All [] = Unit {0}
-All (row ∷ rows) = Holds row × All rows
+All (row ∷ rows) = Claimed row × All rows
 
 -- the frame of the comment on the Rust's `decode`: it declares 7 where 11 is right
 abbrev pub commentFrame : List ℕ
@@ -50,13 +56,13 @@ commentFrame = 2 ∷ 7 ∷ 50 ∷ 0 ∷ 0 ∷ 1 ∷ 128 ∷ 0 ∷ 0 ∷ 4 ∷ 21
 
 abbrev pub pFrames : List Row
 pFrames =
-    encodes GetValues 6 (given 6) (2 ∷ 1 ∷ 4 ∷ 64 ∷ 132 ∷ 3 ∷ [])
+    encodes GetValues 6 (ok 6) (2 ∷ 1 ∷ 4 ∷ 64 ∷ 132 ∷ 3 ∷ [])
     ∷ encodes GetValues 5 (refused bufferTooSmall) (0 ∷ 0 ∷ 0 ∷ 0 ∷ 0 ∷ [])
-    ∷ encodes Alive 6 (given 6) (2 ∷ 1 ∷ 30 ∷ 243 ∷ 255 ∷ 3 ∷ [])
+    ∷ encodes Alive 6 (ok 6) (2 ∷ 1 ∷ 30 ∷ 243 ∷ 255 ∷ 3 ∷ [])
     ∷ carries (SetRpm (negsuc 1499)) (8 ∷ 255 ∷ 255 ∷ 250 ∷ 36 ∷ [])
     -- 1.5 is 3 * 2 ^ -1
     ∷ carries (SetCurrent (fin false 3 (negsuc 0))) (6 ∷ 0 ∷ 0 ∷ 5 ∷ 220 ∷ [])
-    ∷ decodes (2 ∷ 1 ∷ 129 ∷ 129 ∷ 169 ∷ 3 ∷ 9 ∷ 9 ∷ []) (given 6) 129
+    ∷ decodes (2 ∷ 1 ∷ 129 ∷ 129 ∷ 169 ∷ 3 ∷ 9 ∷ 9 ∷ []) (ok 6) 129
     ∷ decodes (2 ∷ 1 ∷ 129 ∷ 129 ∷ 169 ∷ 4 ∷ 9 ∷ 9 ∷ []) (refused invalidFrame) 0
     ∷ decodes (2 ∷ 1 ∷ 129 ∷ 129 ∷ 168 ∷ 3 ∷ 9 ∷ 9 ∷ []) (refused (checksumMismatch 33192 33193)) 0
     ∷ decodes [] (refused incompleteData) 0

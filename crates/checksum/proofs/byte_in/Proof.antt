@@ -1,5 +1,5 @@
 -- `checksum::byte_in` meets its contract. The loop's invariant: the steps left, from the register as it is, give the answer.
--- Assumes nothing.
+--
 use mathlib.Core.Path.{_≡_, refl}
 use native.Mathlib.Omega.{arith}
 use borrow.Author.Needs.{needs}

@@ -1,4 +1,4 @@
--- `checksum::step` meets its contract: it is the definition, term by term. Assumes nothing.
+-- `checksum::step` meets its contract: it is the definition, term by term.
 use mathlib.Core.Path.{refl}
 use borrow.Author.Needs.{needs}
 use Rattle.checksum.specs.Xmodem.{stepOf}

@@ -1,14 +1,14 @@
--- `decoder::at_most` meets its contract: by the test, the room or the number. Assumes nothing.
+-- `decoder::at_most` meets its contract: by the test, the room or the number.
 use mathlib.Core.Path.{sym}
-use Rattle.line.proofs.Figures.{held-over, held-under}
+use Rattle.buffer.proofs.Figures.{capped-over, capped-under}
 use Rattle.decoder.proofs.at_most.Statement.{statement}
 use Rattle.decoder.proofs.at_most.Tie as tie
 
 returns : tie.Need-returns
-returns c = sym (held-over _ _ (c .if1 .taken))
+returns c = sym (capped-over _ _ (c .if1 .taken))
 
 returns-2 : tie.Need-returns-2
-returns-2 c = sym (held-under _ _ (c .if1 .left))
+returns-2 c = sym (capped-under _ _ (c .if1 .left))
 
 pub at-most-spec : {M : Type 1} → statement M
 at-most-spec = tie.close (tie.spec returns returns-2)

@@ -1,11 +1,11 @@
--- `decoder::copy_in` meets its contract. The invariant: so many bytes of the piece are pasted. Assumes nothing.
+-- `decoder::copy_in` meets its contract. The invariant: so many bytes of the piece are pasted.
 use mathlib.Core.Path.{_≡_, ap, _∙_}
 use Prim.Native.Nat.{ℕ, _-_, _≤_}
 use native.Mathlib.Nat.{le-antisymm}
 use native.Mathlib.Omega.{arith}
 use borrow.Author.Needs.{needs}
 use lib.Seq.{paste, paste-zero}
-use Rattle.decoder.proofs.Copying.{paste-more}
+use Rattle.buffer.proofs.Copying.{paste-more}
 use Rattle.decoder.proofs.copy_in.Statement.{statement}
 use Rattle.decoder.proofs.copy_in.Tie as tie
 

@@ -1,4 +1,4 @@
--- `decoder::move_to_front` meets its contract. The invariant: so many bytes are pasted at the front. Assumes nothing.
+-- `decoder::move_to_front` meets its contract. The invariant: so many bytes are pasted at the front.
 use mathlib.Core.Path.{_≡_, ap, _∙_}
 use Prim.Native.Nat.{ℕ, _-_, _≤_}
 use native.Mathlib.Nat.{le-antisymm}
@@ -6,7 +6,7 @@ use native.Mathlib.Omega.{arith}
 use borrow.Author.Needs.{needs}
 use lib.ListN.{drop}
 use lib.Seq.{paste, paste-zero}
-use Rattle.decoder.proofs.Copying.{move-more}
+use Rattle.buffer.proofs.Copying.{move-more}
 use Rattle.decoder.proofs.move_to_front.Statement.{statement}
 use Rattle.decoder.proofs.move_to_front.Tie as tie
 

@@ -1,24 +1,28 @@
--- `decoder::seek` meets its contract. The invariant: the search goes on from the bytes moved over. Assumes nothing.
+-- `decoder::seek` meets its contract. The invariant: the search goes on from the bytes moved over.
 use mathlib.Core.Logic.{⊎-elim}
-use mathlib.Core.Path.{sym, _∙_}
+use mathlib.Core.Path.{ap, _∙_}
 use Prim.Native.Nat.{_-_, _≤_}
 use native.Mathlib.Nat.{le-antisymm}
 use native.Mathlib.Omega.{arith}
 use borrow.Author.Needs.{needs}
 use lib.ListN.{length, drop}
-use Rattle.decoder.proofs.Judging.{answer-good, answer-waits, answer-moves}
-use Rattle.decoder.proofs.Seeking.{SoFar, seek-starts, seek-moves, seek-found, seek-waits, seek-ends, heard, starts-none}
+use Rattle.refusals.specs.declared.Consumed.the-variants.{Refused}
+use Rattle.judge.specs.Judge.{judgeOf}
+use Rattle.stream.proofs.Seeking.{SoFar, lent-rest, seek-starts, seek-moves, seek-found, seek-waits, seek-ends, seek-start}
+use Rattle.reply.specs.Decode.{replyIn}
+use Rattle.decoder.specs.Judge.{decodeJudge}
+use Rattle.decoder.proofs.Judging.{decode-steady, decode-noise, answer-good, answer-waits, answer-moves}
 use Rattle.decoder.proofs.seek.Statement.{statement}
 use Rattle.decoder.proofs.seek.Tie as tie
 
 abbrev Inv-loop : tie.InvT-loop
-Inv-loop unread over₀ over = (over ≤ length unread) × SoFar unread over
+Inv-loop unread over₀ over = (over ≤ length unread) × SoFar decodeJudge unread over
 
 abbrev μ-loop : tie.MeasureT-loop
 μ-loop unread over₀ over = length unread - over
 
 loop-holds : tie.Need-loop-holds Inv-loop μ-loop
-loop-holds c = (search needs, seek-starts (c .before .args .unread .now))
+loop-holds c = (search needs, seek-starts decodeJudge decode-steady (c .before .args .unread .now))
 
 shared-slice-read-if1 : tie.Need-shared-slice-read-if1 Inv-loop μ-loop
 shared-slice-read-if1 c = omega arith
@@ -40,28 +44,27 @@ enum-known-count c = search needs
 
 returns : tie.Need-returns Inv-loop μ-loop
 returns c =
-    let unread = c .before .before .before .before .before .before .before .before .before .before .args .unread .now in
-    let l = c .before .before .before .before .before .before .before .before .loop in
-    let answer = c .before .before .before .judge in
+    let at = c .before .before .before in
+    let l = at .before .before .before .before .before .loop in
+    let unread = at .before .before .before .before .before .before .before .args .unread .now in
     let count = c .before .count .given in
-    seek-found unread (l .over) (count .0 .0) (l .inv .1)
-    (answer-good (drop (l .over) unread) (answer .result) (heard unread (l .over) _ (answer .ensures)) (count .0 .0) (count .1))
+    seek-found decodeJudge decode-steady replyIn unread (l .over) (count .0 .0) (l .inv .1)
+    (answer-good (drop (l .over) unread) (at .judge .result) (at .judge .ensures ∙ ap judgeOf (lent-rest unread (l .over))) (count .0 .0) (count .1))
 
 enum-known-error : tie.Need-enum-known-error Inv-loop μ-loop
 enum-known-error c = search needs
 
-number-requires : tie.Need-number-requires Inv-loop μ-loop
-number-requires c κs = search needs
+enum-told : tie.Need-enum-told Inv-loop μ-loop
+enum-told c = search needs
 
 returns-2 : tie.Need-returns-2 Inv-loop μ-loop
 returns-2 c =
-    let unread = c .before .before .before .before .before .before .before .before .before .before .before .before .args .unread .now in
-    let l = c .before .before .before .before .before .before .before .before .before .before .loop in
-    let answer = c .before .before .before .before .before .judge in
+    let at = c .before .before .before .before .before in
+    let l = at .before .before .before .before .before .loop in
+    let unread = at .before .before .before .before .before .before .before .args .unread .now in
     let error = c .before .before .before .error .given in
-    seek-waits unread (l .over) (l .inv .1)
-    (answer-waits (drop (l .over) unread) (answer .result) (heard unread (l .over) _ (answer .ensures)) (error .0 .0) (error .1)
-    (sym (c .before .number .ensures) ∙ c .if2 .taken))
+    seek-waits decodeJudge decode-steady unread (l .over) (l .inv .1)
+    (answer-waits (drop (l .over) unread) (at .judge .result) (at .judge .ensures ∙ ap judgeOf (lent-rest unread (l .over))) (error .1 ∙ ap Refused (c .enum-told .given .1)))
 
 add-over : tie.Need-add-over Inv-loop μ-loop
 add-over c = omega arith
@@ -74,17 +77,16 @@ loop-again c =
     let unread = c .before .before .before .before .before .args .unread .now in
     let l = c .before .before .before .loop in
     let moves =
-    ⊎-elim
-    (λ w. answer-moves (drop (l .over) unread) (w .2 .result) (heard unread (l .over) _ (w .2 .ensures)) (w .4 .given .0 .0) (w .4 .given .1) (λ q. w .7 .left (w .6 .ensures ∙ q)))
-    (λ w. starts-none unread (l .over) (omega arith) (w .left))
+    ⊎-elim (λ w. answer-moves (drop (l .over) unread) (w .2 .result) (w .2 .ensures ∙ ap judgeOf (lent-rest unread (l .over))) _ (w .4 .given .1) (w .6 .keys2))
+    (λ w. seek-start decodeJudge decode-steady 2 decode-noise unread (l .over) (omega arith) (w .left))
     (c .if1 .came) in
-    (omega arith, seek-moves unread (l .over) (l .inv .1) moves)
+    (omega arith, seek-moves decodeJudge decode-steady unread (l .over) (l .inv .1) moves)
 
 returns-3 : tie.Need-returns-3 Inv-loop μ-loop
 returns-3 c =
     let unread = c .before .before .before .args .unread .now in
     let l = c .before .loop in
-    seek-ends unread (l .over) (l .inv .1) (le-antisymm (c .loop-test .left) (l .inv .0))
+    seek-ends decodeJudge decode-steady unread (l .over) (l .inv .1) (le-antisymm (c .loop-test .left) (l .inv .0))
 
 pub seek-spec : {M : Type 1} → statement M
 seek-spec =
@@ -101,7 +103,7 @@ seek-spec =
     enum-known-count
     returns
     enum-known-error
-    number-requires
+    enum-told
     returns-2
     add-over
     loop-less

@@ -1,4 +1,4 @@
--- `example::asked` meets its contract. Assumes nothing.
+-- `example::asked` meets its contract.
 use borrow.Author.Needs.{needs}
 use Rattle.example.proofs.asked.Statement.{statement}
 use Rattle.example.proofs.asked.Tie as tie

@@ -1,4 +1,4 @@
--- `example::received` meets its contract. Assumes nothing.
+-- `example::received` meets its contract.
 use borrow.Author.Needs.{needs}
 use Rattle.example.proofs.received.Statement.{statement}
 use Rattle.example.proofs.received.Tie as tie

@@ -1,4 +1,4 @@
--- `firmware::flag_at` meets its contract. Assumes nothing.
+-- `firmware::flag_at` meets its contract.
 use mathlib.Core.Path.{ap}
 use Rattle.firmware.specs.Firmware.{flagOf}
 use borrow.Author.Needs.{needs}

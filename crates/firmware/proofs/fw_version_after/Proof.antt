@@ -1,11 +1,14 @@
--- `firmware::fw_version_after` meets its contract. Assumes nothing.
-use mathlib.Core.Path.{ap, _∙_}
+-- `firmware::fw_version_after` meets its contract.
+use mathlib.Core.Path.{sym, ap, _∙_}
 use Prim.Native.Nat.{ℕ}
+use native.Mathlib.Omega.{arith}
+use Rattle.packer.specs.Numbers.{beAt, total}
+use Rattle.packer.proofs.Bytes.{byte-of, number-of}
+use Rattle.codes.specs.Codes.{hwTypeOf, qmlHwOf}
+use Rattle.layout.specs.Layout.{rawOf, afterOf, raws}
+use Rattle.firmware.specs.Firmware.{flagOf}
+use Rattle.firmware.proofs.Ends.{name-raw, name-after}
 use borrow.Author.Needs.{needs}
-use Rattle.packer.specs.Reading.{unsignedAt}
-use Rattle.names.specs.Names.{Name}
-use Rattle.kinds.specs.Kinds.{hwTypeOf, qmlHwOf}
-use Rattle.firmware.specs.Firmware.{fwVersionAfter, endOf, numberOf}
 use Rattle.firmware.proofs.fw_version_after.Statement.{statement}
 use Rattle.firmware.proofs.fw_version_after.Tie as tie
 
@@ -15,8 +18,8 @@ unpack-c-string-39-requires c κs = search needs
 end-of-requires : tie.Need-end-of-requires
 end-of-requires c κs = search needs
 
-unpack-uuid-requires : tie.Need-unpack-uuid-requires
-unpack-uuid-requires c κs = search needs
+uuid-of-requires : tie.Need-uuid-of-requires
+uuid-of-requires c κs = search needs
 
 flag-at-requires : tie.Need-flag-at-requires
 flag-at-requires c κs = search needs
@@ -48,30 +51,33 @@ byte-at-requires-5 c κs = search needs
 byte-at-requires-6 : tie.Need-byte-at-requires-6
 byte-at-requires-6 c κs = search needs
 
-number-at-requires : tie.Need-number-at-requires
-number-at-requires c κs = search needs
+word-at-requires : tie.Need-word-at-requires
+word-at-requires c κs = search needs
 
 returns : tie.Need-returns
-unfolding fwVersionAfter
+unfolding raws rawOf afterOf total
 returns c =
-    let rest = c .before .before .before .before .before .before .before .before .before .before .before .before .before .before .before .before .before .args .rest .now in
-    let name = c .before .before .before .before .before .before .before .before .before .before .before .before .before .before .before .unpack-c-string-39 .ensures in
-    let place = c .before .before .before .before .before .before .before .before .before .before .before .before .before .end-of .ensures ∙ ap (λ (n : Name). endOf (n .answer)) name in
+    let mid = c .before .before .before .before .before .before .before in
+    let uuid = mid .before .before .before .before in
+    let args = uuid .before .before .before .before .before .args in
+    let rest = args .rest .now in
+    let name = uuid .before .before .before .unpack-c-string-39 in
+    let end = name-after 39 rest 20 (name .result .answer) (name .result .bytes) (name .ensures) _ (uuid .before .end-of .ensures) in
     λ i. record {
-      major = c .before .before .before .before .before .before .before .before .before .before .before .before .before .before .before .before .before .args .major;
-      minor = c .before .before .before .before .before .before .before .before .before .before .before .before .before .before .before .before .before .args .minor;
-      «hw_name» = c .before .before .before .before .before .before .before .before .before .before .before .before .before .before .before .before .before .args .hw-name;
-      uuid = c .before .before .before .before .before .before .before .before .before .before .before .before .unpack-uuid .ensures .bytes i;
-      «pairing_done» = c .before .before .before .before .before .before .before .before .before .before .flag-at .ensures i;
-      «test_version_number» = c .before .before .before .before .before .before .before .before .before .byte-at .ensures i;
-      «hw_type» = (c .before .before .before .before .before .before .before .hw-type .ensures ∙ ap hwTypeOf (c .before .before .before .before .before .before .before .before .byte-at2 .ensures)) i;
-      «custom_config_num» = c .before .before .before .before .before .before .byte-at3 .ensures i;
-      «has_phase_filters» = c .before .before .before .before .before .flag-at2 .ensures i;
-      «qml_hw» = (c .before .before .before .qml-hw .ensures ∙ ap qmlHwOf (c .before .before .before .before .byte-at4 .ensures)) i;
-      «qml_app» = c .before .before .byte-at5 .ensures i;
-      «nrf_flags» = c .before .byte-at6 .ensures i;
-      «fw_name» = ap (λ (n : Name). n .bytes) name i;
-      «hw_crc» = (c .number-at .ensures ∙ ap (λ (at : ℕ). numberOf (unsignedAt 4 rest at)) place) i;
+      major = args .major;
+      minor = args .minor;
+      «hw_name» = args .hw-name;
+      uuid = uuid .uuid-of .ensures i;
+      «pairing_done» = (mid .before .before .before .flag-at .ensures ∙ ap flagOf (sym (byte-of 8 rest 12 0 (omega arith)))) i;
+      «test_version_number» = (mid .before .before .byte-at .ensures ∙ sym (byte-of 8 rest 12 1 (omega arith))) i;
+      «hw_type» = (mid .hw-type .ensures ∙ ap hwTypeOf (mid .before .byte-at2 .ensures ∙ sym (byte-of 8 rest 12 2 (omega arith)))) i;
+      «custom_config_num» = (c .before .before .before .before .before .before .byte-at3 .ensures ∙ sym (byte-of 8 rest 12 3 (omega arith))) i;
+      «has_phase_filters» = (c .before .before .before .before .before .flag-at2 .ensures ∙ ap flagOf (sym (byte-of 8 rest 12 4 (omega arith)))) i;
+      «qml_hw» = (c .before .before .before .qml-hw .ensures ∙ ap qmlHwOf (c .before .before .before .before .byte-at4 .ensures ∙ sym (byte-of 8 rest 12 5 (omega arith)))) i;
+      «qml_app» = (c .before .before .byte-at5 .ensures ∙ sym (byte-of 8 rest 12 6 (omega arith))) i;
+      «nrf_flags» = (c .before .byte-at6 .ensures ∙ sym (byte-of 8 rest 12 7 (omega arith))) i;
+      «fw_name» = name-raw 39 rest 20 (name .result .answer) (name .result .bytes) (name .ensures) i;
+      «hw_crc» = (c .word-at .ensures ∙ ap (λ (at : ℕ). beAt rest at 4) end ∙ sym (number-of 4 rest _)) i;
     }
 
 pub fw-version-after-spec : {M : Type 1} → statement M
@@ -80,7 +86,7 @@ fw-version-after-spec =
     (tie.spec
     unpack-c-string-39-requires
     end-of-requires
-    unpack-uuid-requires
+    uuid-of-requires
     flag-at-requires
     byte-at-requires
     byte-at-requires-2
@@ -91,5 +97,5 @@ fw-version-after-spec =
     qml-hw-requires
     byte-at-requires-5
     byte-at-requires-6
-    number-at-requires
+    word-at-requires
     returns)

@@ -1,4 +1,4 @@
--- `floats::f32_from_bits` meets its contract. Assumes nothing.
+-- `floats::f32_from_bits` meets its contract.
 use borrow.Author.Needs.{needs}
 use lib.Ieee.{ofBits, div}
 use Rattle.floats.proofs.NotANumber.{nan-pattern, no-nan-pattern}

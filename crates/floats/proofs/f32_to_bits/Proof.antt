@@ -1,4 +1,4 @@
--- `floats::f32_to_bits` meets its contract. Assumes nothing.
+-- `floats::f32_to_bits` meets its contract.
 use borrow.Author.Needs.{needs}
 use mathlib.Core.Path.{sym, ap}
 use lib.Ieee.{binary32, toBits}

@@ -1,4 +1,4 @@
--- `floats::f32_to_i32` meets its contract. Assumes nothing.
+-- `floats::f32_to_i32` meets its contract.
 use mathlib.Core.Path.{sym, ap, _∙_}
 use lib.Ieee.{ofBits, neg, toSigned}
 use Rattle.floats.proofs.NotANumber.{is-nan}

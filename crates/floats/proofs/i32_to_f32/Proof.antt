@@ -1,4 +1,4 @@
--- `floats::i32_to_f32` meets its contract. Assumes nothing.
+-- `floats::i32_to_f32` meets its contract.
 use borrow.Author.Needs.{needs}
 use mathlib.Core.Path.{ap, _∙_}
 use lib.Ieee.{binary32, ofInt}

@@ -1,4 +1,4 @@
--- `find_nul` meets its contract. The loop's invariant: what is left to scan answers as the whole does. Assumes nothing.
+-- `find_nul` meets its contract. The loop's invariant: what is left to scan answers as the whole does.
 use mathlib.Core.Path.{_≡_, refl, sym, _∙_}
 use native.Mathlib.Omega.{arith}
 use lib.ListN.{drop}

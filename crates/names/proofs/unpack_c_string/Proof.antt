@@ -1,10 +1,11 @@
 -- `unpack_c_string` meets its contract, for every room: a found place ends the part that is copied, and the copy leaves what the name holds.
--- Assumes nothing.
+--
 use mathlib.Core.Path.{sym, ap, _∙_}
 use borrow.Author.Needs.{needs}
 use native.Mathlib.Omega.{arith}
 use lib.ListN.{length}
-use Rattle.names.specs.Names.{scanned, heldBytes}
+use Rattle.names.specs.Names.{heldBytes}
+use Rattle.refusals.specs.Refusals.{consumed}
 use Rattle.names.proofs.Places.{Ends, found-ends}
 use Rattle.names.proofs.Holding.{copied-held, copied-fits, name-of}
 use Rattle.names.proofs.unpack_c_string.Statement.{statement}
@@ -50,7 +51,7 @@ returns c =
     let told = c .before .before .before .before .before in
     let start = told .before .before .before .before .before .before in
     name-of (start .args .room) (start .args .buf .now) (start .args .pos) _ _
-    (ap scanned (sym (told .before .answer .given .1)) ∙ told .before .before .before .find-nul .ensures)
+    (ap consumed (sym (told .before .answer .given .1)) ∙ told .before .before .before .find-nul .ensures)
     (c .before .before .copy .ensures .1 ∙ copied-held _ _ _ _ (found told) (start .pre))
 
 returns-2 : tie.Need-returns-2
@@ -58,7 +59,7 @@ unfolding heldBytes
 returns-2 c =
     let start = c .before .before .before .before .before in
     name-of (start .args .room) (start .args .buf .now) (start .args .pos) _ _ (c .before .before .find-nul .ensures)
-    (start .pre ∙ ap (heldBytes _ _ _) (ap scanned (sym (c .enum-told .given .1))))
+    (start .pre ∙ ap (heldBytes _ _ _) (ap consumed (sym (c .enum-told .given .1))))
 
 pub unpack-c-string-spec : {M : Type 1} → statement M
 unpack-c-string-spec =

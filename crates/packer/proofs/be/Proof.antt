@@ -1,4 +1,4 @@
--- `packer::be` meets its contract: the number so far is that of the bytes passed, and below 256 for each. Assumes nothing.
+-- `packer::be` meets its contract: the number so far is that of the bytes passed, and below 256 for each.
 use Prim.Native.Nat.{ℕ, _+_, _-_, _^_, _≤_, _<_}
 use mathlib.Core.Path.{_≡_, refl}
 use native.Mathlib.Omega.{arith}

@@ -1,4 +1,4 @@
--- `packer::pack_be` meets its contract. Assumes nothing.
+-- `packer::pack_be` meets its contract.
 use borrow.Author.Needs.{needs}
 use Rattle.packer.proofs.Writes.{digits-packed, no-digits-packed}
 use Rattle.packer.proofs.pack_be.Statement.{statement}

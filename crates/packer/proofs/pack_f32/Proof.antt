@@ -1,4 +1,4 @@
--- `packer::pack_f32` meets its contract. Assumes nothing.
+-- `packer::pack_f32` meets its contract.
 use mathlib.Core.Path.{refl}
 use Rattle.packer.proofs.Complement.{called-i32}
 use borrow.Author.Needs.{needs}

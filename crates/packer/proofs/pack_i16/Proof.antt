@@ -1,4 +1,4 @@
--- `packer::pack_i16` meets its contract. Assumes nothing.
+-- `packer::pack_i16` meets its contract.
 use native.Mathlib.Omega.{arith}
 use Rattle.packer.proofs.Complement.{widened, widened-fits}
 use borrow.Author.Needs.{needs}

@@ -1,4 +1,4 @@
--- `packer::put_be` meets its contract: storing the digits that are left gives what storing all of them gives. Assumes nothing.
+-- `packer::put_be` meets its contract: storing the digits that are left gives what storing all of them gives.
 use Prim.Native.Nat.{_≤_}
 use mathlib.Core.Path.{_≡_, refl, _∙_}
 use native.Mathlib.Omega.{arith}

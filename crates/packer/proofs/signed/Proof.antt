@@ -1,4 +1,4 @@
--- `packer::signed` meets its contract. Assumes nothing.
+-- `packer::signed` meets its contract.
 use Prim.Native.Nat.{_-_}
 use native.Mathlib.Omega.{arith}
 use borrow.Author.Needs.{needs}

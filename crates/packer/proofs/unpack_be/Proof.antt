@@ -1,4 +1,4 @@
--- `packer::unpack_be` meets its contract. Assumes nothing.
+-- `packer::unpack_be` meets its contract.
 use mathlib.Core.Path.{sym}
 use borrow.Author.Needs.{needs}
 use Rattle.packer.proofs.Places.{got, lacking}

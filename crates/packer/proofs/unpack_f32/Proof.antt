@@ -1,10 +1,10 @@
--- `packer::unpack_f32` meets its contract. Assumes nothing.
+-- `packer::unpack_f32` meets its contract.
 use mathlib.Core.Path.{sym, ap, _∙_}
 use lib.IntN.{ℤ}
 use mir.Syntax.{w32}
 use mir.ValLaws.{toZ-ofZ}
-use Rattle.floats.specs.Numbers.{readingOf}
-use Rattle.packer.specs.Reading.{unpackedI32}
+use Rattle.floats.specs.Numbers.{overScale}
+use Rattle.packer.specs.Unpacking.{unpackedI32}
 use Rattle.packer.proofs.Places.{made, not-made}
 use borrow.Author.Needs.{needs}
 use Rattle.packer.proofs.unpack_f32.Statement.{statement}
@@ -24,12 +24,12 @@ enum-known-e c = search needs
 
 returns : tie.Need-returns
 returns c =
-    made (λ (raw : ℤ). readingOf raw (c .before .before .before .before .before .before .args .scale)) _ _ _ _ _ _ _
-    (c .scaled .ensures ∙ ap (λ (raw : ℤ). readingOf raw (c .before .before .before .before .before .before .args .scale)) (toZ-ofZ w32 _ (record { sfits = c .before .known-told .given .0 .1 })))
+    made (λ (raw : ℤ). overScale raw (c .before .before .before .before .before .before .args .scale)) _ _ _ _ _ _ _
+    (c .scaled .ensures ∙ ap (λ (raw : ℤ). overScale raw (c .before .before .before .before .before .before .args .scale)) (toZ-ofZ w32 _ (record { sfits = c .before .known-told .given .0 .1 })))
     (sym (ap unpackedI32 (c .before .before .raw .given .1)) ∙ c .before .before .before .before .unpack-i32 .ensures)
 
 returns-2 : tie.Need-returns-2
-returns-2 c = not-made (λ (raw : ℤ). readingOf raw (c .before .before .before .before .before .args .scale)) _ _ _ _ _ (sym (ap unpackedI32 (c .before .e .given .1)) ∙ c .before .before .before .unpack-i32 .ensures)
+returns-2 c = not-made (λ (raw : ℤ). overScale raw (c .before .before .before .before .before .args .scale)) _ _ _ _ _ (sym (ap unpackedI32 (c .before .e .given .1)) ∙ c .before .before .before .unpack-i32 .ensures)
 
 pub unpack-f32-spec : {M : Type 1} → statement M
 unpack-f32-spec =

@@ -1,7 +1,7 @@
--- `packer::unpack_f32_auto` meets its contract. Assumes nothing.
+-- `packer::unpack_f32_auto` meets its contract.
 use mathlib.Core.Path.{sym, ap, _∙_}
 use lib.Ieee.{binary32, ofBits}
-use Rattle.packer.specs.Reading.{unpackedU32}
+use Rattle.packer.specs.Unpacking.{unpackedU32}
 use Rattle.packer.proofs.Places.{made, not-made}
 use borrow.Author.Needs.{needs}
 use Rattle.packer.proofs.unpack_f32_auto.Statement.{statement}

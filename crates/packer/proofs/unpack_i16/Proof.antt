@@ -1,10 +1,10 @@
--- `packer::unpack_i16` meets its contract: the number read, made signed and narrowed. Assumes nothing.
+-- `packer::unpack_i16` meets its contract: the number read, made signed and narrowed.
 use mathlib.Core.Path.{sym, ap, subst, _∙_}
 use Rattle.packer.proofs.Places.{made, not-made}
 use native.Mathlib.Omega.{arith}
 use Rattle.packer.proofs.Complement.{called-i16, fits-i16}
 use Rattle.packer.specs.Numbers.{signedOf}
-use Rattle.packer.specs.Reading.{unpackedU32, NumberBelow}
+use Rattle.packer.specs.Unpacking.{unpackedU32, NumberBelow}
 use borrow.Author.Needs.{needs}
 use Rattle.packer.proofs.unpack_i16.Statement.{statement}
 use Rattle.packer.proofs.unpack_i16.Tie as tie

@@ -1,9 +1,9 @@
--- `packer::unpack_i32` meets its contract: the number read, made signed. Assumes nothing.
+-- `packer::unpack_i32` meets its contract: the number read, made signed.
 use mathlib.Core.Path.{sym, ap, _∙_}
 use Rattle.packer.proofs.Places.{made, not-made}
 use Rattle.packer.proofs.Complement.{called-i32}
 use Rattle.packer.specs.Numbers.{signedOf}
-use Rattle.packer.specs.Reading.{unpackedU32}
+use Rattle.packer.specs.Unpacking.{unpackedU32}
 use borrow.Author.Needs.{needs}
 use Rattle.packer.proofs.unpack_i32.Statement.{statement}
 use Rattle.packer.proofs.unpack_i32.Tie as tie

@@ -1,6 +1,6 @@
--- `packer::unpack_u16` meets its contract: the number read, narrowed. Assumes nothing.
+-- `packer::unpack_u16` meets its contract: the number read, narrowed.
 use mathlib.Core.Path.{sym, ap, subst, _∙_}
-use Rattle.packer.specs.Reading.{unpackedU32, NumberBelow}
+use Rattle.packer.specs.Unpacking.{unpackedU32, NumberBelow}
 use borrow.Author.Needs.{needs}
 use Rattle.packer.proofs.unpack_u16.Statement.{statement}
 use Rattle.packer.proofs.unpack_u16.Tie as tie

@@ -1,4 +1,4 @@
--- `packer::unpack_uuid` meets its contract. Assumes nothing.
+-- `packer::unpack_uuid` meets its contract.
 use mathlib.Core.Path.{_∙_}
 use Rattle.packer.proofs.Places.{uuid-lacking, uuid-got, copied}
 use borrow.Author.Needs.{needs}

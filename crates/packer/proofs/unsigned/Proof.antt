@@ -1,4 +1,4 @@
--- `packer::unsigned` meets its contract. Assumes nothing.
+-- `packer::unsigned` meets its contract.
 use Prim.Native.Nat.{_+_}
 use mathlib.Core.Path.{ap}
 use native.Mathlib.Omega.{arith}

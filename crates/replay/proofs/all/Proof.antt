@@ -1,4 +1,4 @@
--- `replay::all` meets its contract. Assumes nothing.
+-- `replay::all` meets its contract.
 use mathlib.Core.Path.{_≡_, refl}
 use lib.ListN.{length}
 use borrow.Author.Needs.{needs}

@@ -1,4 +1,4 @@
--- `replay::answered` meets its contract. Assumes nothing.
+-- `replay::answered` meets its contract.
 use mathlib.Core.Path.{sym}
 use lib.Seq.{length-take-le}
 use borrow.Author.Needs.{needs}

@@ -1,4 +1,4 @@
--- `replay::one` meets its contract. Assumes nothing.
+-- `replay::one` meets its contract.
 use mathlib.Core.Path.{sym}
 use lib.Seq.{length-take-le}
 use borrow.Author.Needs.{needs}

@@ -1,4 +1,4 @@
--- `reply::blank` meets its contract. Assumes nothing.
+-- `reply::blank` meets its contract.
 use Rattle.reply.specs.Reply.{blankOf}
 use borrow.Author.Needs.{needs}
 use Rattle.reply.proofs.blank.Statement.{statement}

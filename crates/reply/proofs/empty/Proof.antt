@@ -1,4 +1,4 @@
--- `reply::empty` meets its contract. Assumes nothing.
+-- `reply::empty` meets its contract.
 use Rattle.reply.specs.Reply.{emptyReply}
 use borrow.Author.Needs.{needs}
 use Rattle.reply.proofs.empty.Statement.{statement}

@@ -1,4 +1,4 @@
--- `reply::unpack_from` meets its contract. Assumes nothing.
+-- `reply::unpack_from` meets its contract.
 use mathlib.Core.Path.{sym, _∙_}
 use borrow.Author.Tests.{ne-eqb}
 use Rattle.reply.specs.Reply.{replyOf}
@@ -6,8 +6,8 @@ use borrow.Author.Needs.{needs}
 use Rattle.reply.proofs.unpack_from.Statement.{statement}
 use Rattle.reply.proofs.unpack_from.Tie as tie
 
-id-of-requires : tie.Need-id-of-requires
-id-of-requires c κs = search needs
+byte-at-requires : tie.Need-byte-at-requires
+byte-at-requires c κs = search needs
 
 unpack-fw-version-requires : tie.Need-unpack-fw-version-requires
 unpack-fw-version-requires c κs = search needs
@@ -35,37 +35,37 @@ empty-requires c κs = search needs
 
 returns : tie.Need-returns
 unfolding replyOf
-returns c = rw (sym (c .before .before .id-of .ensures) ∙ c .before .match .keys1) (c .unpack-fw-version .ensures)
+returns c = rw (sym (c .before .before .byte-at .ensures) ∙ c .before .match .keys1) (c .unpack-fw-version .ensures)
 
 returns-2 : tie.Need-returns-2
 unfolding replyOf
-returns-2 c = rw (sym (c .before .before .id-of .ensures) ∙ c .before .match .keys2) (c .unpack-get-values .ensures)
+returns-2 c = rw (sym (c .before .before .byte-at .ensures) ∙ c .before .match .keys2) (c .unpack-get-values .ensures)
 
 returns-3 : tie.Need-returns-3
 unfolding replyOf
-returns-3 c = rw (sym (c .before .before .id-of .ensures) ∙ c .before .match .keys3) (c .unpack-get-values-selective .ensures)
+returns-3 c = rw (sym (c .before .before .byte-at .ensures) ∙ c .before .match .keys3) (c .unpack-get-values-selective .ensures)
 
 returns-4 : tie.Need-returns-4
 unfolding replyOf
-returns-4 c = rw (sym (c .before .before .id-of .ensures) ∙ c .before .match .keys4) (c .unpack-get-values-setup-selective .ensures)
+returns-4 c = rw (sym (c .before .before .byte-at .ensures) ∙ c .before .match .keys4) (c .unpack-get-values-setup-selective .ensures)
 
 returns-5 : tie.Need-returns-5
 unfolding replyOf
-returns-5 c = rw (sym (c .before .before .id-of .ensures) ∙ c .before .match .keys5) (c .unpack-get-stats .ensures)
+returns-5 c = rw (sym (c .before .before .byte-at .ensures) ∙ c .before .match .keys5) (c .unpack-get-stats .ensures)
 
 returns-6 : tie.Need-returns-6
 unfolding replyOf
-returns-6 c = rw (sym (c .before .before .id-of .ensures) ∙ c .before .match .keys6) (c .blank .ensures)
+returns-6 c = rw (sym (c .before .before .byte-at .ensures) ∙ c .before .match .keys6) (c .blank .ensures)
 
 returns-7 : tie.Need-returns-7
 unfolding replyOf
-returns-7 c = rw (sym (c .before .before .id-of .ensures) ∙ c .before .match .keys7) (c .unpack-fw-info .ensures)
+returns-7 c = rw (sym (c .before .before .byte-at .ensures) ∙ c .before .match .keys7) (c .unpack-fw-info .ensures)
 
 returns-8 : tie.Need-returns-8
 unfolding replyOf
 returns-8 c =
     let no = c .before .match .rest in
-    let id = sym (c .before .before .id-of .ensures) in
+    let id = sym (c .before .before .byte-at .ensures) in
     rw id (simp (
       ne-eqb _ _ (no .0 .0 .0 .0 .0 .0 .1),
       ne-eqb _ _ (no .0 .0 .0 .0 .0 .1),
@@ -80,7 +80,7 @@ pub unpack-from-spec : {M : Type 1} → statement M
 unpack-from-spec =
     tie.close
     (tie.spec
-    id-of-requires
+    byte-at-requires
     unpack-fw-version-requires
     unpack-get-values-requires
     unpack-get-values-selective-requires

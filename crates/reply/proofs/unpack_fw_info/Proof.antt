@@ -1,4 +1,4 @@
--- `reply::unpack_fw_info` meets its contract. Assumes nothing.
+-- `reply::unpack_fw_info` meets its contract.
 use Rattle.reply.specs.Reply.{blankOf, fwInfoReplyOf}
 use borrow.Author.Needs.{needs}
 use Rattle.reply.proofs.unpack_fw_info.Statement.{statement}

@@ -1,4 +1,4 @@
--- `reply::unpack_fw_version` meets its contract. Assumes nothing.
+-- `reply::unpack_fw_version` meets its contract.
 use Rattle.reply.specs.Reply.{blankOf, fwVersionReplyOf}
 use borrow.Author.Needs.{needs}
 use Rattle.reply.proofs.unpack_fw_version.Statement.{statement}

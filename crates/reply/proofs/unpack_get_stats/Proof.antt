@@ -1,16 +1,18 @@
--- `reply::unpack_get_stats` meets its contract. Assumes nothing.
+-- `reply::unpack_get_stats` meets its contract.
 use mathlib.Core.Path.{ap, _∙_}
 use Prim.Native.Nat.{ℕ}
-use Rattle.fields.specs.Fields.{statsTable}
-use Rattle.fields.specs.Reading.{unpackedRaws}
-use Rattle.records.specs.Records.{statsOf}
+use Rattle.packer.specs.Numbers.{numbersAt}
+use Rattle.tables.specs.Tables.{widths, statsTable}
+use Rattle.telemetry.specs.Telemetry.{statsOf}
+use Rattle.telemetry.proofs.Padded.{stats-padded}
+use Rattle.layout.specs.Layout.{rawOf, raws}
 use Rattle.reply.specs.Reply.{blankOf, getStatsOf}
 use borrow.Author.Needs.{needs}
 use Rattle.reply.proofs.unpack_get_stats.Statement.{statement}
 use Rattle.reply.proofs.unpack_get_stats.Tie as tie
 
-mask-of-requires : tie.Need-mask-of-requires
-mask-of-requires c κs = search needs
+word-at-requires : tie.Need-word-at-requires
+word-at-requires c κs = search needs
 
 unpack-fields-requires : tie.Need-unpack-fields-requires
 unpack-fields-requires c κs = search needs
@@ -22,13 +24,18 @@ stats-of-requires : tie.Need-stats-of-requires
 stats-of-requires c κs = search needs
 
 returns : tie.Need-returns
-unfolding blankOf getStatsOf
+unfolding blankOf getStatsOf raws rawOf
 returns c =
+    let payload = c .before .before .before .before .before .args .payload .now in
+    let read = c .before .before in
+    let numbers =
+    ap statsOf (read .unpack-fields .ensures) ∙ stats-padded (numbersAt (widths (read .before .word-at .result) statsTable) payload 5)
+    ∙ ap (λ (mask : ℕ). statsOf (numbersAt (widths mask statsTable) payload 5)) (read .before .word-at .ensures) in
     λ i. record {
       kind = c .before .blank .ensures i .kind;
       values = c .before .blank .ensures i .values;
       «setup_values» = c .before .blank .ensures i .«setup_values»;
-      stats = (c .stats-of .ensures ∙ ap (statsOf (c .before .before .before .before .mask-of .result)) (c .before .before .before .unpack-fields .ensures .raw) ∙ ap (λ (mask : ℕ). statsOf mask (unpackedRaws statsTable mask (c .before .before .before .before .before .before .args .payload .now) 5)) (c .before .before .before .before .mask-of .ensures)) i;
+      stats = (c .stats-of .ensures ∙ numbers) i;
       «fw_version» = c .before .blank .ensures i .«fw_version»;
       «fw_info» = c .before .blank .ensures i .«fw_info»;
     }
@@ -36,4 +43,4 @@ returns c =
 pub unpack-get-stats-spec : {M : Type 1} → statement M
 unpack-get-stats-spec =
     tie.close
-    (tie.spec mask-of-requires unpack-fields-requires blank-requires stats-of-requires returns)
+    (tie.spec word-at-requires unpack-fields-requires blank-requires stats-of-requires returns)

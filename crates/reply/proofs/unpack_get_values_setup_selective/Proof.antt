@@ -1,16 +1,18 @@
--- `reply::unpack_get_values_setup_selective` meets its contract. Assumes nothing.
+-- `reply::unpack_get_values_setup_selective` meets its contract.
 use mathlib.Core.Path.{ap, _∙_}
 use Prim.Native.Nat.{ℕ}
-use Rattle.fields.specs.Fields.{setupTable}
-use Rattle.fields.specs.Reading.{unpackedRaws}
-use Rattle.records.specs.Records.{setupValuesOf}
+use Rattle.packer.specs.Numbers.{numbersAt}
+use Rattle.tables.specs.Tables.{widths, setupTable}
+use Rattle.telemetry.specs.Telemetry.{setupValuesOf}
+use Rattle.telemetry.proofs.Padded.{setup-padded}
+use Rattle.layout.specs.Layout.{rawOf, raws}
 use Rattle.reply.specs.Reply.{blankOf, getValuesSetupSelectiveOf}
 use borrow.Author.Needs.{needs}
 use Rattle.reply.proofs.unpack_get_values_setup_selective.Statement.{statement}
 use Rattle.reply.proofs.unpack_get_values_setup_selective.Tie as tie
 
-mask-of-requires : tie.Need-mask-of-requires
-mask-of-requires c κs = search needs
+word-at-requires : tie.Need-word-at-requires
+word-at-requires c κs = search needs
 
 unpack-fields-requires : tie.Need-unpack-fields-requires
 unpack-fields-requires c κs = search needs
@@ -22,12 +24,17 @@ setup-values-of-requires : tie.Need-setup-values-of-requires
 setup-values-of-requires c κs = search needs
 
 returns : tie.Need-returns
-unfolding blankOf getValuesSetupSelectiveOf
+unfolding blankOf getValuesSetupSelectiveOf raws rawOf
 returns c =
+    let payload = c .before .before .before .before .before .args .payload .now in
+    let read = c .before .before in
+    let numbers =
+    ap setupValuesOf (read .unpack-fields .ensures) ∙ setup-padded (numbersAt (widths (read .before .word-at .result) setupTable) payload 5)
+    ∙ ap (λ (mask : ℕ). setupValuesOf (numbersAt (widths mask setupTable) payload 5)) (read .before .word-at .ensures) in
     λ i. record {
       kind = c .before .blank .ensures i .kind;
       values = c .before .blank .ensures i .values;
-      «setup_values» = (c .setup-values-of .ensures ∙ ap (setupValuesOf (c .before .before .before .before .mask-of .result)) (c .before .before .before .unpack-fields .ensures .raw) ∙ ap (λ (mask : ℕ). setupValuesOf mask (unpackedRaws setupTable mask (c .before .before .before .before .before .before .args .payload .now) 5)) (c .before .before .before .before .mask-of .ensures)) i;
+      «setup_values» = (c .setup-values-of .ensures ∙ numbers) i;
       stats = c .before .blank .ensures i .stats;
       «fw_version» = c .before .blank .ensures i .«fw_version»;
       «fw_info» = c .before .blank .ensures i .«fw_info»;
@@ -37,7 +44,7 @@ pub unpack-get-values-setup-selective-spec : {M : Type 1} → statement M
 unpack-get-values-setup-selective-spec =
     tie.close
     (tie.spec
-    mask-of-requires
+    word-at-requires
     unpack-fields-requires
     blank-requires
     setup-values-of-requires

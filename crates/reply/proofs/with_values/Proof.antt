@@ -1,6 +1,7 @@
--- `reply::with_values` meets its contract. Assumes nothing.
+-- `reply::with_values` meets its contract.
 use mathlib.Core.Path.{ap, _∙_}
-use Rattle.records.specs.Records.{valuesOf}
+use Rattle.telemetry.specs.Telemetry.{valuesOf}
+use Rattle.telemetry.proofs.Padded.{values-padded}
 use Rattle.reply.specs.Reply.{blankOf}
 use borrow.Author.Needs.{needs}
 use Rattle.reply.proofs.with_values.Statement.{statement}
@@ -20,7 +21,7 @@ unfolding blankOf
 returns c =
     λ i. record {
       kind = c .before .blank .ensures i .kind;
-      values = (c .values-of .ensures ∙ ap (valuesOf (c .before .before .before .before .before .args .mask)) (c .before .before .before .unpack-fields .ensures .raw)) i;
+      values = (c .values-of .ensures ∙ ap valuesOf (c .before .before .unpack-fields .ensures) ∙ values-padded _) i;
       «setup_values» = c .before .blank .ensures i .«setup_values»;
       stats = c .before .blank .ensures i .stats;
       «fw_version» = c .before .blank .ensures i .«fw_version»;

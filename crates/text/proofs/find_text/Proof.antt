@@ -1,4 +1,4 @@
--- `find_text` meets its contract: the part before the first NUL where that is well-formed, else the empty one. Assumes nothing.
+-- `find_text` meets its contract: the part before the first NUL where that is well-formed, else the empty one.
 use mathlib.Core.Path.{refl, sym, _∙_}
 use borrow.Author.Needs.{needs}
 use Rattle.text.proofs.Parts.{Part, part-found, none-refused, text-found, text-absent}

@@ -1,28 +1,22 @@
--- `has_four` meets its contract: the row without its last range, then that range. Assumes nothing.
+-- `has_four` meets its contract: the row without its last range, then that range.
 use borrow.Author.Needs.{needs}
-use Rattle.text.proofs.Rows.{row-on, row-off}
+use Rattle.text.proofs.Rows.{row-joined}
 use Rattle.text.proofs.has_four.Statement.{statement}
 use Rattle.text.proofs.has_four.Tie as tie
 
 has-three-requires : tie.Need-has-three-requires
 has-three-requires c κs = search needs
 
-add-has-one : tie.Need-add-has-one
-add-has-one c = search needs
+add-and-one : tie.Need-add-and-one
+add-and-one c = search needs
 
-has-one-requires : tie.Need-has-one-requires
-has-one-requires c κs = search needs
+and-one-requires : tie.Need-and-one-requires
+and-one-requires c κs = search needs
 
 returns : tie.Need-returns
 returns c =
-    let start = c .before .before .before .before in
-    row-on _ _ (start .args .bytes .now) (start .args .at) (c .before .before .has-three .ensures) (c .before .if1 .taken) (c .has-one .ensures)
-
-returns-2 : tie.Need-returns-2
-returns-2 c =
-    let start = c .before .before .before in
-    row-off _ _ (start .args .bytes .now) (start .args .at) (c .before .has-three .ensures) (c .if1 .left)
+    let args = c .before .before .before .args in
+    row-joined _ _ (args .bytes .now) (args .at) (c .before .has-three .ensures) (c .and-one .ensures)
 
 pub has-four-spec : {M : Type 1} → statement M
-has-four-spec =
-    tie.close (tie.spec has-three-requires add-has-one has-one-requires returns returns-2)
+has-four-spec = tie.close (tie.spec has-three-requires add-and-one and-one-requires returns)

@@ -1,4 +1,4 @@
--- `has_one` meets its contract: a byte is there and in its range, or none is there. Assumes nothing.
+-- `has_one` meets its contract: a byte is there and in its range, or none is there.
 use mathlib.Core.Path.{sym, _∙_}
 use borrow.Author.Needs.{needs}
 use Rattle.text.proofs.Rows.{range-inside, range-outside}

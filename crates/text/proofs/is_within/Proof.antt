@@ -1,4 +1,4 @@
--- `is_within` meets its contract. Assumes nothing.
+-- `is_within` meets its contract.
 use borrow.Author.Tests.{le-leb, lt-leb}
 use Rattle.text.specs.Utf8.{within}
 use Rattle.text.proofs.is_within.Statement.{statement}

@@ -1,5 +1,5 @@
 -- `sequence_length` meets its contract, row by row: each test that fails leaves the rows after it, and the first that holds says the length.
--- Assumes nothing.
+--
 use mathlib.Core.Path.{_≡_, sym, _∙_}
 use mathlib.Core.List.{List}
 use Prim.Native.Nat.{ℕ}

@@ -1,4 +1,4 @@
--- `text` meets its contract: the part that `find_text` says. Assumes nothing.
+-- `text` meets its contract: the part that `find_text` says.
 use mathlib.Core.Path.{sym}
 use borrow.Author.Needs.{needs}
 use lib.Seq.{length-take-le}

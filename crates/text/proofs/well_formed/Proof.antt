@@ -1,4 +1,4 @@
--- `well_formed` meets its contract. The loop's invariant: what is left is as well-formed as the whole. Assumes nothing.
+-- `well_formed` meets its contract. The loop's invariant: what is left is as well-formed as the whole.
 use mathlib.Core.Path.{_≡_, refl, sym, _∙_}
 use Prim.Native.Nat.{_-_}
 use native.Mathlib.Omega.{arith}

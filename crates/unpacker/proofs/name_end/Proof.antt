@@ -1,4 +1,4 @@
--- `name_end` meets its contract, for every room. Assumes nothing.
+-- `name_end` meets its contract, for every room.
 use borrow.Author.Needs.{needs}
 use native.Mathlib.Omega.{arith}
 use Rattle.unpacker.proofs.Places.{name-room, name-ends-after, ends-after-room, ends-at-end, ends-past-end}

@@ -1,4 +1,4 @@
--- `step_c_string_39` meets its contract: the name that is read, and the place that follows from its scan. Assumes nothing.
+-- `step_c_string_39` meets its contract: the name that is read, and the place that follows from its scan.
 use mathlib.Core.Path.{ap}
 use borrow.Author.Needs.{needs}
 use Rattle.names.specs.Names.{Name}

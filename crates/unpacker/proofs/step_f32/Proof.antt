@@ -1,4 +1,4 @@
--- `step_f32` meets its contract: the reader's answer, and the place that follows from it. Assumes nothing.
+-- `step_f32` meets its contract: the reader's answer, and the place that follows from it.
 use borrow.Author.Needs.{needs}
 use Rattle.unpacker.proofs.Places.{number-read}
 use Rattle.unpacker.proofs.step_f32.Statement.{statement}

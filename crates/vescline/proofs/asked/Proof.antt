@@ -1,4 +1,4 @@
--- `vescline::asked` meets its contract. Assumes nothing.
+-- `vescline::asked` meets its contract.
 use lib.ListN.{length}
 use mathlib.Core.Path.{_≡_, refl}
 use borrow.Author.Needs.{needs}

@@ -1,4 +1,4 @@
--- `vescline::fed` meets its contract. Assumes nothing.
+-- `vescline::fed` meets its contract.
 use lib.ListN.{length}
 use mathlib.Core.Path.{_≡_, refl}
 use borrow.Author.Needs.{needs}

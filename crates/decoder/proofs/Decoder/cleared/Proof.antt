@@ -1,4 +1,4 @@
--- `decoder::Decoder::cleared` meets its contract. Assumes nothing.
+-- `decoder::Decoder::cleared` meets its contract.
 use mathlib.Core.Path.{refl}
 use borrow.Author.Needs.{needs}
 use Rattle.decoder.proofs.States.{cleared-holds, uncleared-holds}

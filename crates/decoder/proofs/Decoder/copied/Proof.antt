@@ -1,11 +1,11 @@
--- `decoder::Decoder::copied` meets its contract. Assumes nothing.
+-- `decoder::Decoder::copied` meets its contract.
 use mathlib.Core.Path.{refl, _∙_}
 use Prim.Native.Nat.{_-_}
 use native.Mathlib.Omega.{arith}
 use borrow.Author.Needs.{needs}
 use lib.ListN.{length}
-use Rattle.line.proofs.Figures.{held}
-use Rattle.decoder.proofs.States.{copied-holds, fitting-line}
+use Rattle.buffer.proofs.Figures.{capped}
+use Rattle.decoder.proofs.States.{copied-holds, fitting-buffer}
 use Rattle.decoder.proofs.Decoder.copied.Statement.{statement}
 use Rattle.decoder.proofs.Decoder.copied.Tie as tie
 
@@ -18,7 +18,7 @@ at-most-requires c κs = search needs
 copy-in-requires : tie.Need-copy-in-requires
 copy-in-requires c κs =
     let args = c .before .before .before .args in
-    let most = held (512 - args .t1 .wpos) (length (args .piece .now)) in
+    let most = capped (512 - args .t1 .wpos) (length (args .piece .now)) in
     let count = c .before .at-most .ensures in
     (search needs, omega arith, omega arith)
 
@@ -28,7 +28,7 @@ raise-requires c κs = search needs
 add-self : tie.Need-add-self
 add-self c =
     let args = c .before .before .before .before .before .args in
-    let most = held (512 - args .t1 .wpos) (length (args .piece .now)) in
+    let most = capped (512 - args .t1 .wpos) (length (args .piece .now)) in
     let count = c .before .before .before .at-most .ensures in
     omega arith
 
@@ -36,7 +36,7 @@ returns : tie.Need-returns
 returns c =
     let start = c .before .before .before .before .before in
     let count = c .before .before .before .at-most in (
-      count .ensures ∙ fitting-line (start .args .t1) _ (start .pre),
+      count .ensures ∙ fitting-buffer (start .args .t1) _ (start .pre),
       copied-holds (start .args .t1) _ (start .pre) (start .args .piece .now) (count .result) (count .ensures) (c .before .copy-in .ensures) refl refl
           (c .raise .ensures) refl refl,
     )

@@ -1,9 +1,9 @@
--- `decoder::Decoder::feed` meets its contract: its parts, one after the other. Assumes nothing.
+-- `decoder::Decoder::feed` meets its contract: its parts, one after the other.
 use mathlib.Core.Path.{_≡_, ap, _∙_}
 use borrow.Author.Needs.{needs}
 use lib.ListN.{length}
-use Rattle.line.specs.Line.{moved, cleared, fitting, copied, feedCount, feedLine}
-use Rattle.decoder.specs.State.{lineOf}
+use Rattle.buffer.specs.Buffer.{moved, cleared, fitting, copied, feedCount, fedBuffer}
+use Rattle.decoder.specs.State.{bufferOf}
 use Rattle.decoder.proofs.Decoder.feed.Statement.{statement}
 use Rattle.decoder.proofs.Decoder.feed.Tie as tie
 
@@ -20,18 +20,18 @@ copied-requires : tie.Need-copied-requires
 copied-requires c κs = search needs
 
 returns : tie.Need-returns
-unfolding feedCount feedLine
+unfolding feedCount fedBuffer
 returns c =
     let args = c .before .before .before .before .before .args in
     let piece = args .piece .now in
-    let line : lineOf (c .before .cleared .result) ≡ cleared (moved (length piece) (lineOf (args .self))) =
+    let buffer : bufferOf (c .before .cleared .result) ≡ cleared (moved (length piece) (bufferOf (args .self))) =
     c .before .cleared .ensures .is ∙ ap cleared (c .before .before .moved .ensures .is ∙ ap (moved (length piece)) (c .before .before .before .settled .ensures .is)) in
-    let count = c .copied .ensures .0 ∙ ap (fitting (length piece)) line in
+    let count = c .copied .ensures .0 ∙ ap (fitting (length piece)) buffer in
     record {
       count = count;
       after =
           record {
-            is = c .copied .ensures .1 .is ∙ (λ i. copied piece (count i) (line i));
+            is = c .copied .ensures .1 .is ∙ (λ i. copied piece (count i) (buffer i));
             sound = c .copied .ensures .1 .sound;
           };
     }

@@ -1,4 +1,4 @@
--- `decoder::Decoder::moved` meets its contract. Assumes nothing.
+-- `decoder::Decoder::moved` meets its contract.
 use mathlib.Core.Path.{refl}
 use borrow.Author.Needs.{needs}
 use Rattle.decoder.proofs.States.{moved-holds, unmoved-holds}

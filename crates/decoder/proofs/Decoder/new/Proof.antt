@@ -1,11 +1,11 @@
--- `decoder::Decoder::new` meets its contract. Assumes nothing.
+-- `decoder::Decoder::new` meets its contract.
 use borrow.Author.Needs.{needs}
-use Rattle.decoder.specs.State.{lineOf}
+use Rattle.decoder.specs.State.{bufferOf}
 use Rattle.decoder.proofs.Decoder.new.Statement.{statement}
 use Rattle.decoder.proofs.Decoder.new.Tie as tie
 
 returns : tie.Need-returns
-unfolding lineOf
+unfolding bufferOf
 returns c = search needs
 
 pub new-spec : {M : Type 1} → statement M

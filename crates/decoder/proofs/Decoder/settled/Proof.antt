@@ -1,4 +1,4 @@
--- `decoder::Decoder::settled` meets its contract: by the two tests, a fresh state or the same one. Assumes nothing.
+-- `decoder::Decoder::settled` meets its contract: by the two tests, a fresh state or the same one.
 use mathlib.Core.Path.{sym, _∙_}
 use borrow.Author.Needs.{needs}
 use Rattle.decoder.proofs.States.{past-end-fresh, past-write-fresh}

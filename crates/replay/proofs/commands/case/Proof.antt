@@ -1,4 +1,4 @@
--- `replay::commands::case` meets its contract. Assumes nothing.
+-- `replay::commands::case` meets its contract.
 use mathlib.Core.Path.{sym}
 use lib.Seq.{length-take-le}
 use borrow.Author.Needs.{needs}

@@ -1,4 +1,4 @@
--- `replay::masks::words` meets its contract. Assumes nothing.
+-- `replay::masks::words` meets its contract.
 use mathlib.Core.Path.{_≡_, refl}
 use lib.ListN.{length}
 use Prim.Native.Nat.{_-_}

@@ -1,4 +1,4 @@
--- `replay::reads::read_i16` meets its contract. Assumes nothing.
+-- `replay::reads::read_i16` meets its contract.
 use Rattle.packer.proofs.Complement.{widened-fits}
 use borrow.Author.Needs.{needs}
 use Rattle.replay.proofs.reads.read_i16.Statement.{statement}

@@ -1,4 +1,4 @@
--- `replay::shows::bytes` meets its contract. Assumes nothing.
+-- `replay::shows::bytes` meets its contract.
 use mathlib.Core.Path.{_≡_, refl}
 use lib.ListN.{length}
 use Prim.Native.Nat.{_-_}

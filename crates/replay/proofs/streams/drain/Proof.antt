@@ -1,4 +1,4 @@
--- `replay::streams::drain` meets its contract. Assumes nothing.
+-- `replay::streams::drain` meets its contract.
 use mathlib.Core.Path.{_≡_, refl}
 use lib.ListN.{length}
 use borrow.Author.Needs.{needs}

@@ -1,4 +1,4 @@
--- `replay::streams::feed_some` meets its contract. Assumes nothing.
+-- `replay::streams::feed_some` meets its contract.
 use mathlib.Core.Path.{sym}
 use lib.Seq.{length-take-le}
 use borrow.Author.Needs.{needs}

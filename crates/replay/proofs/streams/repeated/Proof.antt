@@ -1,4 +1,4 @@
--- `replay::streams::repeated` meets its contract. Assumes nothing.
+-- `replay::streams::repeated` meets its contract.
 use mathlib.Core.Path.{_≡_, refl}
 use lib.ListN.{length}
 use borrow.Author.Needs.{needs}

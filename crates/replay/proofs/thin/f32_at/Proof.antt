@@ -1,8 +1,8 @@
--- `thin::f32_at` meets its contract, by the walk of a read that takes a scale. Assumes nothing.
+-- `thin::f32_at` meets its contract, by the walk of a read that takes a scale.
 use contract.Running.{givenOf, tables, tablesOf}
 use denote.Triple.Spec.{tripleOf}
 use denote.Triple.Table.{entered, cited}
-use Rattle.packer.specs.Reading.{unpackedF32}
+use Rattle.packer.specs.Unpacking.{unpackedF32}
 use Rattle.unpacker.specs.Unpacker.{scaledRead}
 use Rattle.unpacker.proofs.Sorts.{ofF32}
 use Rattle.unpacker.proofs.Unpacker.unpack_f32.Symbol as method

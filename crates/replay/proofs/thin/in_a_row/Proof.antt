@@ -1,5 +1,5 @@
 -- `thin::in_a_row` meets its contract: a walk of its MIR, by hand. One Unpacker is made by `Unpacker::new`, and lent to four methods in turn: each finds it where the
--- one before left it. Assumes nothing.
+-- one before left it.
 use mathlib.Core.Path.{_≡_, refl, _∙_, ap}
 use Prim.Native.Nat.{ℕ}
 use mathlib.Core.List.{List, [], _∷_}
@@ -35,7 +35,7 @@ use denote.Triple.Entry.{onEntry}
 use denote.Triple.Spec.{Meets, tripleOf}
 use denote.Triple.Table.{entered, cited}
 use denote.Triple.Walked.{says, Stays, stay-dropped, goes-dropped, walkOf, ends-at, walked, walk-meets}
-use Rattle.packer.specs.Reading.{unpackedU8, unpackedU32, unpackedF32}
+use Rattle.packer.specs.Unpacking.{unpackedU8, unpackedU32, unpackedF32}
 use Rattle.names.specs.Names.{named39}
 use Rattle.unpacker.specs.Unpacker.{Read, moved, fresh, unsignedRead, scaledRead, nameRead, stepU8, stepU32, stepF32, stepName39}
 use Rattle.unpacker.specs.declared.StepU8.{StepU8}
@@ -135,7 +135,8 @@ module _ {M : Type 1} (𝓤 : URA M) (H : Heap 𝓤) (A : Atoms 𝓤) (mem : Mem
           let freshly = fresh-typed 𝓤 H A W κ s slice in
           let had = owns-make 𝓤 H A (f32 ∷ []) (Ises (f32 ∷ [])) (float-makes 𝓤 H A W binary32, tt) (scale, tt) (x ∷ [], tt) (is-float, tt) in
           qed W ((‵ (flft κ q) ⊛ ‵ ftrue) ∷ ‵ (owns (ShrSlice (named 0) κ u8 ∷ f32 ∷ []) (s, (scale, tt)) (v ∷ [], (x ∷ [], tt))) ∷ []) ∵ enter ! C Λ code.function (v ∷ x ∷ []) _ $
-          alloc1 ! (λ l₀. alloc1 ! (λ l₁. alloc1 ! (λ l₂. alloc1 ! (λ l₃. alloc1 ! (λ l₄. alloc1 ! (λ l₅. alloc1 ! (λ l₆. alloc1 ! (λ l₇. alloc1 ! (λ l₈. alloc1 ! (λ l₉. alloc1 ! (λ l₁₀. alloc1 ! (λ l₁₁. alloc1 ! (λ l₁₂. alloc1 ! (λ l₁₃. alloc0 ! $ params1 ! $
+          alloc1 ! (λ l₀. alloc1 ! (λ l₁. alloc1 ! (λ l₂. alloc1 ! (λ l₃. alloc1 ! (λ l₄. alloc1 ! (λ l₅. alloc1 ! (λ l₆.
+          alloc1 ! (λ l₇. alloc1 ! (λ l₈. alloc1 ! (λ l₉. alloc1 ! (λ l₁₀. alloc1 ! (λ l₁₁. alloc1 ! (λ l₁₂. alloc1 ! (λ l₁₃. alloc0 ! $ params1 ! $
           pass1 ! (init ! 24 refl (shr-slice-lawful 𝓤 H A W (named 0) κ u8 .typed s (v ∷ []) slice .0)) $ pass1 ! (init ! 22 refl (float-lawful 𝓤 H A W binary32 .typed scale _ is-float .0)) $ pass0 ! $
           -- `new`
           move ! (29 ∷ []) $ fsplit ! $ move ! (1 ∷ []) $ drop ! $ nothing ! $ move ! (1 ∷ 0 ∷ []) $ fjoin ! $ move ! (29 ∷ 0 ∷ []) $
@@ -159,14 +160,20 @@ module _ {M : Type 1} (𝓤 : URA M) (H : Heap 𝓤) (A : Atoms 𝓤) (mem : Mem
           land ! (from ! (stop !)) (init ! 18 refl (answer-typed ofU32 𝓤 H A W d₃ _ is₃)) $
           -- `unpack_f32`
           assigns ! (addr ! (from ! (stop !))) (from ! (stop !)) (init ! 6 refl (tt, tt)) $
-          reads ofF32 unpackedF32 taken (yes, tt) dropped (λ κs es. scaledRead 4 (es .0)) κ q l₃ (moved (fresh s) (d₃ .pos)) (λ κs. (scale, tt)) (λ κs. (x ∷ [], tt)) ! fm (known .scale) (λ κs. had) (λ ν γ. and-then ! (load ! (from ! (stop !)) (look ! 6 refl)) (and-then ! (load ! (from ! (stop !)) (look ! 25 refl)) (no-more !))) (λ ν d₄ e₄ is₄.
+          reads ofF32 unpackedF32 taken (yes, tt) dropped (λ κs es. scaledRead 4 (es .0)) κ q l₃ (moved (fresh s) (d₃ .pos)) (λ κs. (scale, tt)) (λ κs. (x ∷ [], tt)) ! fm (known .scale) (λ κs. had)
+          (λ ν γ. and-then ! (load ! (from ! (stop !)) (look ! 6 refl)) (and-then ! (load ! (from ! (stop !)) (look ! 25 refl)) (no-more !))) (λ ν d₄ e₄ is₄.
           land ! (from ! (stop !)) (init ! 16 refl (answer-typed ofF32 𝓤 H A W d₄ _ is₄)) $
           -- the row
           assigns ! (of-opd ! (load ! (from ! (fld ! refl (stop !))) (look-in ! 0 (sub ! 1 refl (whole !))))) (from ! (stop !)) (init ! 4 refl (tt, record { fits = pos-fits ofF32 d₄ _ is₄ })) $
-          assigns ! (agg ! (and-then ! (load ! (from ! (stop !)) (look ! 22 refl)) (and-then ! (load ! (from ! (stop !)) (look ! 20 refl)) (and-then ! (load ! (from ! (stop !)) (look ! 18 refl)) (and-then ! (load ! (from ! (stop !)) (look ! 16 refl)) (and-then ! (load ! (from ! (stop !)) (look ! 4 refl)) (no-more !))))))) (from ! (stop !))
+          assigns ! (agg ! (and-then ! (load ! (from ! (stop !)) (look ! 22 refl)) (and-then ! (load ! (from ! (stop !)) (look ! 20 refl))
+          (and-then ! (load ! (from ! (stop !)) (look ! 18 refl)) (and-then ! (load ! (from ! (stop !)) (look ! 16 refl))
+          (and-then ! (load ! (from ! (stop !)) (look ! 4 refl)) (no-more !))))))) (from ! (stop !))
           (init ! 29 refl (LL.lawful Rows.the-type Rows′.the-laws 𝓤 H A W .typed (row d₁ d₂ d₃ d₄) _ (row-is d₁ d₂ d₃ d₄ is₁ is₂ is₃ is₄) .0)) $
-          returns ! (look ! 29 refl) $ forget ! 0 refl $ forget ! 4 refl $ forget ! 6 refl $ forget ! 8 refl $ forget ! 10 refl $ forget ! 12 refl $ forget ! 14 refl $ forget ! 16 refl $ forget ! 18 refl $ forget ! 20 refl $ forget ! 22 refl $ forget ! 25 refl $ forget ! 27 refl $ forget ! 29 refl $
-          move ! (29 ∷ 30 ∷ []) $ free1 ! $ move ! (27 ∷ 28 ∷ []) $ free1 ! $ move ! (25 ∷ 26 ∷ []) $ free1 ! $ move ! (0 ∷ 24 ∷ []) $ free1 ! $ move ! (21 ∷ 22 ∷ []) $ free1 ! $ move ! (19 ∷ 20 ∷ []) $ free1 ! $ move ! (17 ∷ 18 ∷ []) $ free1 ! $ move ! (15 ∷ 16 ∷ []) $ free1 ! $ move ! (13 ∷ 14 ∷ []) $ free1 ! $ move ! (11 ∷ 12 ∷ []) $ free1 ! $ move ! (9 ∷ 10 ∷ []) $ free1 ! $ move ! (7 ∷ 8 ∷ []) $ free1 ! $ move ! (5 ∷ 6 ∷ []) $ free1 ! $ move ! (3 ∷ 4 ∷ []) $ free1 ! $ free0 ! $
+          returns ! (look ! 29 refl) $ forget ! 0 refl $ forget ! 4 refl $ forget ! 6 refl $ forget ! 8 refl $ forget ! 10 refl $ forget ! 12 refl $
+          forget ! 14 refl $ forget ! 16 refl $ forget ! 18 refl $ forget ! 20 refl $ forget ! 22 refl $ forget ! 25 refl $ forget ! 27 refl $ forget ! 29 refl $
+          move ! (29 ∷ 30 ∷ []) $ free1 ! $ move ! (27 ∷ 28 ∷ []) $ free1 ! $ move ! (25 ∷ 26 ∷ []) $ free1 ! $ move ! (0 ∷ 24 ∷ []) $ free1 ! $ move ! (21 ∷ 22 ∷ []) $ free1 ! $
+          move ! (19 ∷ 20 ∷ []) $ free1 ! $ move ! (17 ∷ 18 ∷ []) $ free1 ! $ move ! (15 ∷ 16 ∷ []) $ free1 ! $ move ! (13 ∷ 14 ∷ []) $ free1 ! $ move ! (11 ∷ 12 ∷ []) $ free1 ! $
+          move ! (9 ∷ 10 ∷ []) $ free1 ! $ move ! (7 ∷ 8 ∷ []) $ free1 ! $ move ! (5 ∷ 6 ∷ []) $ free1 ! $ move ! (3 ∷ 4 ∷ []) $ free1 ! $ free0 ! $
           keep ! (1 ∷ 2 ∷ []) $ by ! (exits (row d₁ d₂ d₃ d₄) (rowValue d₁ d₂ d₃ d₄) (row-reads d₁ d₂ d₃ d₄ scale (now s) e₁ e₂ e₃ e₄) (row-is d₁ d₂ d₃ d₄ is₁ is₂ is₃ is₄)))))))))))))))))))))
 
   in-a-row-meets : Given 𝓤 H A → (𝓣 : Tables 𝓤 H) → Known 𝓤 H A (𝓣 .C) mem run → Meets 𝓤 H A in-a-row.signature (WpFn 𝓤 H (𝓣 .C) (𝓣 .Λ) code.function) (in-a-row.spec 𝓤 H A mem run)

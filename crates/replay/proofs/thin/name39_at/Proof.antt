@@ -1,4 +1,4 @@
--- `thin::name39_at` meets its contract, by the walk that the functions share. Assumes nothing.
+-- `thin::name39_at` meets its contract, by the walk that the functions share.
 use contract.Running.{givenOf, tables, tablesOf}
 use denote.Triple.Spec.{tripleOf}
 use denote.Triple.Table.{entered, cited}

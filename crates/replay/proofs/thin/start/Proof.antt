@@ -1,5 +1,5 @@
 -- `thin::start` meets its contract: a walk of its MIR, by hand. The Unpacker that `Unpacker::new` returns is held in a local, and its position is read there.
--- Assumes nothing.
+--
 use mathlib.Core.Path.{refl}
 use Prim.Native.Nat.{ℕ}
 use lib.Dec.{lit<}

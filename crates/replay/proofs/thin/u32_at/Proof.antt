@@ -1,8 +1,8 @@
--- `thin::u32_at` meets its contract, by the walk that the functions share. Assumes nothing.
+-- `thin::u32_at` meets its contract, by the walk that the functions share.
 use contract.Running.{givenOf, tables, tablesOf}
 use denote.Triple.Spec.{tripleOf}
 use denote.Triple.Table.{entered, cited}
-use Rattle.packer.specs.Reading.{unpackedU32}
+use Rattle.packer.specs.Unpacking.{unpackedU32}
 use Rattle.unpacker.specs.Unpacker.{unsignedRead}
 use Rattle.unpacker.proofs.Sorts.{ofU32}
 use Rattle.unpacker.proofs.Unpacker.unpack_u32.Symbol as method

@@ -1,8 +1,8 @@
--- `thin::u8_at` meets its contract, by the walk that the functions share. Assumes nothing.
+-- `thin::u8_at` meets its contract, by the walk that the functions share.
 use contract.Running.{givenOf, tables, tablesOf}
 use denote.Triple.Spec.{tripleOf}
 use denote.Triple.Table.{entered, cited}
-use Rattle.packer.specs.Reading.{unpackedU8}
+use Rattle.packer.specs.Unpacking.{unpackedU8}
 use Rattle.unpacker.specs.Unpacker.{unsignedRead}
 use Rattle.unpacker.proofs.Sorts.{ofU8}
 use Rattle.unpacker.proofs.Unpacker.unpack_u8.Symbol as method

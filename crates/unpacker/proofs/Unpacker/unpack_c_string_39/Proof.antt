@@ -1,4 +1,4 @@
--- `Unpacker::unpack_c_string_39` meets its contract, by the walk that the methods share. Assumes nothing.
+-- `Unpacker::unpack_c_string_39` meets its contract, by the walk that the methods share.
 use contract.Running.{givenOf, tables, tablesOf}
 use denote.Triple.Spec.{tripleOf}
 use denote.Triple.Table.{entered, cited}

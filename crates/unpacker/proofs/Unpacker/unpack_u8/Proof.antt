@@ -1,8 +1,8 @@
--- `Unpacker::unpack_u8` meets its contract, by the walk that the methods share. Assumes nothing.
+-- `Unpacker::unpack_u8` meets its contract, by the walk that the methods share.
 use contract.Running.{givenOf, tables, tablesOf}
 use denote.Triple.Spec.{tripleOf}
 use denote.Triple.Table.{entered, cited}
-use Rattle.packer.specs.Reading.{unpackedU8}
+use Rattle.packer.specs.Unpacking.{unpackedU8}
 use Rattle.unpacker.specs.Unpacker.{unsignedRead}
 use Rattle.unpacker.proofs.Sorts.{ofU8}
 use Rattle.unpacker.proofs.Walk.{StepTriple, method-meets}

@@ -1,4 +1,4 @@
--- `vectors::frames::behind` meets its contract. Assumes nothing.
+-- `vectors::frames::behind` meets its contract.
 use mathlib.Core.Path.{sym}
 use lib.Seq.{length-take-le}
 use borrow.Author.Needs.{needs}

@@ -1,4 +1,4 @@
--- `vectors::frames::bytes` meets its contract. Assumes nothing.
+-- `vectors::frames::bytes` meets its contract.
 use lib.ListN.{length}
 use Prim.Native.Nat.{_-_}
 use borrow.Author.Needs.{needs}

@@ -1,4 +1,4 @@
--- `vectors::frames::front` meets its contract. Assumes nothing.
+-- `vectors::frames::front` meets its contract.
 use mathlib.Core.Path.{sym}
 use lib.Seq.{length-take-le}
 use borrow.Author.Needs.{needs}

@@ -1,4 +1,4 @@
--- `vescline::printing::figures_so_far` meets its contract. Assumes nothing.
+-- `vescline::printing::figures_so_far` meets its contract.
 use mathlib.Core.Path.{sym}
 use lib.Seq.{length-take-le}
 use borrow.Author.Needs.{needs}

@@ -1,4 +1,4 @@
--- `vescline::printing::flushed` meets its contract. Assumes nothing.
+-- `vescline::printing::flushed` meets its contract.
 use mathlib.Core.Path.{sym}
 use lib.Seq.{length-take-le}
 use borrow.Author.Needs.{needs}

@@ -1,4 +1,4 @@
--- `vescline::printing::put_all` meets its contract. Assumes nothing.
+-- `vescline::printing::put_all` meets its contract.
 use mathlib.Core.Path.{_≡_, refl}
 use lib.ListN.{length}
 use Prim.Native.Nat.{_-_}

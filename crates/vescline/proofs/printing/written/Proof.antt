@@ -1,4 +1,4 @@
--- `vescline::printing::written` meets its contract. Assumes nothing.
+-- `vescline::printing::written` meets its contract.
 use borrow.Author.Needs.{needs}
 use Rattle.vescline.proofs.printing.written.Statement.{statement}
 use Rattle.vescline.proofs.printing.written.Tie as tie

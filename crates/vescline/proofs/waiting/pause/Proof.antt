@@ -1,6 +1,6 @@
 -- `waiting::pause` is safe and ends: a walk of its MIR, by hand. All that it knows of `nanosleep` is that it meets its contract.
 -- The time asked is lent by `&` and the time left by `&mut`, each whole and for a lifetime made for the call; both end after it, so each local is whole again and its frame is released.
--- Assumes nothing.
+--
 use mathlib.Core.Path.{refl}
 use Prim.Native.Nat.{ℕ, _^_}
 use mathlib.Core.List.{[], _∷_, List}

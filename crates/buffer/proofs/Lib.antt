@@ -1,0 +1,7 @@
+pub mod Figures
+pub mod Copying
+pub mod Feeding
+pub mod Nexts
+pub mod Runs
+pub mod Balance
+pub mod Loss

@@ -1,0 +1,49 @@
+-- What one `next` does, by whether it gives a reply.
+use mathlib.Core.Path.{_≡_, refl}
+use mathlib.Core.Bool.{true, false}
+use Prim.Native.Nat.{ℕ, _+_}
+use native.Mathlib.Omega.{arith}
+use lib.ListN.{length}
+use Rattle.stream.specs.Reading.{Judge, Steady}
+use Rattle.stream.specs.Searching.{Search, found, nothing, sizeFound, search}
+use Rattle.stream.proofs.Search.{movedOver, restOf, search-account}
+use Rattle.buffer.specs.Buffer.{Buffer, isFound, replyFound, bufferAfter, nextGiven, nextReply, nextBuffer}
+use Rattle.buffer.proofs.Feeding.{Fits}
+
+module _ {R : Type 0} (judge : Judge R) (empty : R) where
+  -- A search that found a frame, or nothing: the buffer after it has its rest unread.
+  pub next-gives : (buffer : Buffer) → nextGiven judge buffer ≡ true
+      → (over : ℕ) × (n : ℕ) × (search judge (buffer .unread) ≡ found over n (nextReply judge empty buffer) (nextBuffer judge buffer .unread))
+  unfolding nextGiven nextReply nextBuffer
+  next-gives buffer = by (search judge (buffer .unread))
+    where
+      by : (s : Search R) → isFound s ≡ true → (over : ℕ) × (n : ℕ) × (s ≡ found over n (replyFound empty s) (bufferAfter s buffer .unread))
+      by (found over n r after) e = (over, n, refl)
+      by (nothing over rest) e = let z : _≡_ {A = ℕ} 0 1 = cc in absurd (omega arith)
+
+  pub next-nothing : (buffer : Buffer) → nextGiven judge buffer ≡ false → (over : ℕ) × (search judge (buffer .unread) ≡ nothing over (nextBuffer judge buffer .unread))
+  unfolding nextGiven nextBuffer
+  next-nothing buffer = by (search judge (buffer .unread))
+    where
+      by : (s : Search R) → isFound s ≡ false → (over : ℕ) × (s ≡ nothing over (bufferAfter s buffer .unread))
+      by (found over n r after) e = let z : _≡_ {A = ℕ} 0 1 = cc in absurd (omega arith)
+      by (nothing over rest) e = (over, refl)
+
+module _ {R : Type 0} (judge : Judge R) where
+  -- The place where the next byte is written stays.
+  pub next-wpos : (buffer : Buffer) → nextBuffer judge buffer .wpos ≡ buffer .wpos
+  unfolding nextBuffer
+  next-wpos buffer = by (search judge (buffer .unread))
+    where
+      by : (s : Search R) → bufferAfter s buffer .wpos ≡ buffer .wpos
+      by (found over n r after) = refl
+      by (nothing over rest) = refl
+
+  -- A buffer that calls can make stays one.
+  pub next-fits : Steady judge → (buffer : Buffer) → Fits buffer → Fits (nextBuffer judge buffer)
+  unfolding nextBuffer
+  next-fits steady buffer fits = by (search judge (buffer .unread)) (search-account judge steady (buffer .unread))
+    where
+      by : (s : Search R) → movedOver s + sizeFound s + length (restOf s) ≡ length (buffer .unread) → Fits (bufferAfter s buffer)
+      by (found over n r after) a = record { low = omega arith; high = fits .high }
+      by (nothing over rest) a = record { low = omega arith; high = fits .high }

@@ -1,0 +1,208 @@
+-- Every run comes to the one reading of what was taken, and any stream can be run whole. Over any decoder that loses nothing of the pieces that may be
+-- offered, and whose `next` is one search.
+use mathlib.Core.Path.{_≡_, refl, sym, ap, _∙_, subst}
+use mathlib.Core.List.{List, [], _∷_, _++_, append-assoc, append-nil}
+use Prim.Native.Nat.{ℕ, zero, suc, _+_, _<_, _≤_}
+use native.Mathlib.Omega.{arith}
+use lib.ListN.{length, take, drop, length-append, length-drop, take-append-drop}
+use Rattle.stream.specs.Reading.{good, notYet, Judge, Reading, Steady, Bounded, stops, readFrom, readAll, repliesOf, joined}
+use Rattle.stream.specs.Lateness.{NoneOver}
+use Rattle.stream.specs.Searching.{Search, found, nothing, search}
+use Rattle.stream.proofs.Turns.{idle}
+use Rattle.stream.proofs.Rest.{rest-not-yet}
+use Rattle.stream.proofs.Frames.{replies-append, reply-given}
+use Rattle.stream.proofs.Joined.{behind, unreadPlace, reading-joined}
+use Rattle.stream.proofs.Search.{readOn, found-fewer, search-reading}
+use Rattle.stream.proofs.Lateness.{TakenIn, given-in-time, given-stays}
+use Rattle.buffer.specs.Runs.{Calls, again, Nonempty, Asked, ends, gives}
+use Rattle.buffer.specs.Runs.{Run, starts, offers, asks, recuts, Answers, a-reply, no-reply, AskingEnds, asking, Ends, all-taken, offering, Reached, at-first, by-feed, by-reply, by-nothing, GivenSoFar}
+
+-- What is ahead is what was not taken, and the pieces behind it.
+joined-again : (left : List ℕ) (ahead : List (List ℕ)) → joined (again left ahead) ≡ left ++ joined ahead
+joined-again [] ahead = refl
+joined-again (byte ∷ left) ahead = refl
+
+nonempty-again : (left : List ℕ) (ahead : List (List ℕ)) → Nonempty ahead → Nonempty (again left ahead)
+nonempty-again [] ahead some = some
+nonempty-again (byte ∷ left) ahead some = (omega arith, some)
+
+-- The stream is what was taken, and then what is ahead.
+pub run-front : {R : Type 0} {calls : Calls R} {Free : Type 0} {pieces ahead : List (List ℕ)} {taken : List ℕ} {replies : List R} {s : calls .State}
+    → Run calls Free pieces ahead taken replies s → joined pieces ≡ taken ++ joined ahead
+run-front (starts first) = refl
+run-front (offers {ahead} {piece} {taken} {n = n} run may feeds asked) =
+    let rest = joined ahead in
+    let split : piece ++ rest ≡ take n piece ++ (drop n piece ++ rest) = ap (λ (l : List ℕ). l ++ rest) (sym (take-append-drop n piece)) ∙ append-assoc (take n piece) (drop n piece) rest in
+    run-front run ∙ ap (λ (l : List ℕ). taken ++ l) (split ∙ ap (λ (l : List ℕ). take n piece ++ l) (sym (joined-again (drop n piece) ahead)))
+    ∙ sym (append-assoc taken (take n piece) (joined (again (drop n piece) ahead)))
+run-front (asks may run asked) = run-front run
+run-front (recuts {taken = taken} other may run same) = run-front run ∙ ap (λ (l : List ℕ). taken ++ l) (sym same)
+
+-- What is asked of the calls, where `unread` are the bytes that a state holds unread. `next` is one search of them
+pub record Searches {R : Type 0} (judge : Judge R) (calls : Calls R) (unread : calls .State → List ℕ) : Type 0 where
+  pub gives : {s t : calls .State} {reply : R} → calls .Gives s reply t → (over : ℕ) × (n : ℕ) × (search judge (unread s) ≡ found over n reply (unread t))
+  pub nothing : {s t : calls .State} → calls .GivesNothing s t → (over : ℕ) × (search judge (unread s) ≡ nothing over (unread t))
+
+-- and `feed` of a piece that may be offered, once asked until nothing came, loses nothing, and takes a byte if there is one
+pub record Faithful {R : Type 0} (judge : Judge R) (calls : Calls R) (unread : calls .State → List ℕ) : Type 0 where
+  pub next : Searches judge calls unread
+  pub fresh : {s : calls .State} → calls .Fresh s → unread s ≡ []
+  pub feeds : {s t : calls .State} {piece : List ℕ} {n : ℕ} → judge (unread s) ≡ notYet → calls .Piece piece → calls .Feeds s piece n t → unread t ≡ unread s ++ take n piece
+  pub some : {s t : calls .State} {piece : List ℕ} {n : ℕ} → judge (unread s) ≡ notYet → 0 < length piece → calls .Feeds s piece n t → 0 < n
+
+-- the replies, and what is left unread, are what the reading of l gives and leaves, wherever l stands
+pub record Comes {R : Type 0} (judge : Judge R) (replies : List R) (rest l : List ℕ) : Type 0 where
+  pub same-replies : (place : ℕ) → replies ≡ repliesOf (readFrom judge place l .frames)
+  pub same-rest : (place : ℕ) → rest ≡ readFrom judge place l .rest
+
+module _ {R : Type 0} (judge : Judge R) (steady : Steady judge) where
+  comes-by : {replies : List R} {rest : List ℕ} (l : List ℕ) (o : ℕ → Reading R) → ((place : ℕ) → readFrom judge place l ≡ o place)
+      → ((place : ℕ) → replies ≡ repliesOf (o place .frames)) → ((place : ℕ) → rest ≡ o place .rest) → Comes judge replies rest l
+  comes-by l o e replies rest =
+      record {
+        same-replies = λ place. replies place ∙ sym (ap (λ (x : Reading R). repliesOf (x .frames)) (e place));
+        same-rest = λ place. rest place ∙ sym (ap (λ (x : Reading R). x .rest) (e place));
+      }
+
+  comes-empty : Comes judge [] [] []
+  comes-empty = comes-by [] (λ place. stops []) (λ place. idle judge steady place [] (steady .empty)) (λ place. refl) (λ place. refl)
+
+  -- what comes first, and then what comes of the rest with more bytes behind it
+  comes-on : {replies new : List R} {rest last : List ℕ} (taken more : List ℕ) → Comes judge replies rest taken → Comes judge new last (rest ++ more)
+      → Comes judge (replies ++ new) last (taken ++ more)
+  comes-on {rest = rest} taken more a b =
+      let first : ℕ → Reading R = λ place. readFrom judge place taken in
+      let at : ℕ → ℕ = λ place. unreadPlace place taken (first place) in
+      comes-by (taken ++ more) (λ place. behind (first place .frames) (readFrom judge (at place) (rest ++ more)))
+      (λ place. reading-joined judge steady place taken more
+      ∙ sym (ap (λ (l : List ℕ). behind (first place .frames) (readFrom judge (at place) (l ++ more))) (a .same-rest place)))
+      (λ place. (λ i. a .same-replies place i ++ b .same-replies (at place) i) ∙ sym (replies-append (first place .frames) _))
+      (λ place. b .same-rest (at place))
+
+module _ {R : Type 0} (judge : Judge R) (steady : Steady judge) (calls : Calls R) (unread : calls .State → List ℕ) (next : Searches judge calls unread) where
+  searched : (l : List ℕ) (s : Search R) → search judge l ≡ s → (place : ℕ) → readFrom judge place l ≡ readOn judge place s
+  searched l s e place = search-reading judge steady place l ∙ ap (readOn judge place) e
+
+  pub asked-comes : {s u : calls .State} {replies : List R} → Asked calls s replies u → Comes judge replies (unread u) (unread s)
+  asked-comes {s} (ends none) = comes-by judge steady (unread s) _ (searched (unread s) _ (next .nothing none .1)) (λ place. refl) (λ place. refl)
+  asked-comes {s} (gives {reply = reply} gave asked) =
+      let c = asked-comes asked in
+      let f = next .gives gave in
+      comes-by judge steady (unread s) _ (searched (unread s) _ (f .2)) (λ place. ap (λ (q : List R). reply ∷ q) (c .same-replies (place + f .0 + f .1)))
+      (λ place. c .same-rest (place + f .0 + f .1))
+
+  -- Each reply leaves fewer bytes unread.
+  pub gives-fewer : {s t : calls .State} {reply : R} → calls .Gives s reply t → length (unread t) < length (unread s)
+  gives-fewer {s} {t} {reply} gave = let f = next .gives gave in found-fewer judge steady (unread s) (f .0) (f .1) reply (unread t) (f .2)
+
+  ends-in : (k : ℕ) (s : calls .State) → ((t : calls .State) → Answers calls t) → length (unread s) < k → AskingEnds calls s
+  ends-in zero s answers h = absurd (omega arith)
+  ends-in (suc k) s answers h = asking (answers s) (λ reply t gave. ends-in k t answers (omega (arith, gives-fewer gave)))
+
+  -- So where `next` always hands something back, asking ends.
+  pub asking-ends : ((t : calls .State) → Answers calls t) → (s : calls .State) → AskingEnds calls s
+  asking-ends answers s = ends-in (suc (length (unread s))) s answers (omega arith)
+
+module _ {R : Type 0} (judge : Judge R) (steady : Steady judge) (calls : Calls R) (unread : calls .State → List ℕ) (faithful : Faithful judge calls unread) where
+  run-comes : {Free : Type 0} {pieces ahead : List (List ℕ)} {taken : List ℕ} {replies : List R} {s : calls .State}
+      → Run calls Free pieces ahead taken replies s → Comes judge replies (unread s) taken
+  run-comes (starts first) = rw (faithful .fresh first) (comes-empty judge steady)
+  run-comes (recuts other may run same) = run-comes run
+  run-comes (asks {taken = taken} {s = s} may run asked) =
+      let now = asked-comes judge steady calls unread (faithful .next) asked in
+      rw append-nil at (comes-on judge steady taken [] (run-comes run) (rw (← append-nil (unread s)) at now))
+  run-comes (offers {piece = piece} {taken = taken} {n = n} run may feeds asked) =
+      let before = run-comes run in
+      let now = asked-comes judge steady calls unread (faithful .next) asked in
+      let waits = ap judge (before .same-rest 0) ∙ rest-not-yet judge steady 0 taken in
+      comes-on judge steady taken (take n piece) before (rw (faithful .feeds waits may feeds) at now)
+
+  module _ {Free : Type 0} {pieces ahead : List (List ℕ)} {taken : List ℕ} {replies : List R} {s : calls .State} (run : Run calls Free pieces ahead taken replies s) where
+    -- "the replies are those of one left-to-right reading .., in order and no others": of what was taken; and what that reading leaves is unread
+    pub run-replies : replies ≡ repliesOf (readAll judge taken .frames)
+    run-replies = run-comes run .same-replies 0
+
+    pub run-unread : unread s ≡ readAll judge taken .rest
+    run-unread = run-comes run .same-rest 0
+
+    run-waits : judge (unread s) ≡ notYet
+    run-waits = ap judge run-unread ∙ rest-not-yet judge steady 0 taken
+
+    -- "A good frame overlapped by no earlier frame of that reading is given": the frame, good by its own n bytes, stands at p of the stream; its own last
+    -- byte is taken, and bound - 1 bytes counted from its first are.
+    pub in-time : (bound : ℕ) → Bounded judge bound → (p n : ℕ) (reply : R)
+        → judge (take n (drop p (joined pieces))) ≡ good n reply → NoneOver p (readAll judge (joined pieces) .frames)
+        → p + n ≤ length taken → TakenIn bound p taken
+        → GivenSoFar p n reply (readAll judge (joined pieces) .frames) replies
+    unfolding given-stays
+    in-time bound bounded p n reply stands clear own enough =
+        let f = run-front run in
+        let a = given-in-time judge steady bound bounded taken (joined ahead) p n reply (rw f at stands) (rw f at clear) own enough in
+        rw f (record { frame = given-stays judge steady taken (joined ahead) p n reply a; later = repliesOf (a .after); exactly = run-replies ∙ reply-given a })
+
+    -- An offer takes a byte or more.
+    pub takes-some : {t : calls .State} {n : ℕ} (piece : List ℕ) → 0 < length piece → calls .Feeds s piece n t → 0 < n
+    takes-some piece some feeds = faithful .some run-waits some feeds
+
+-- Every state of a run is one that calls make of a fresh one.
+asked-reached : {R : Type 0} {calls : Calls R} {s u : calls .State} {replies : List R} → Reached calls s → Asked calls s replies u → Reached calls u
+asked-reached reached (ends none) = by-nothing reached none
+asked-reached reached (gives {reply = reply} gave asked) = asked-reached (by-reply reply reached gave) asked
+
+pub run-reached : {R : Type 0} {calls : Calls R} {Free : Type 0} {pieces ahead : List (List ℕ)} {taken : List ℕ} {replies : List R} {s : calls .State}
+    → Run calls Free pieces ahead taken replies s → Reached calls s
+run-reached (starts first) = at-first first
+run-reached (offers {piece = piece} {n = n} run may feeds asked) = asked-reached (by-feed piece n (run-reached run) feeds) asked
+run-reached (asks may run asked) = asked-reached (run-reached run) asked
+run-reached (recuts other may run same) = run-reached run
+
+-- A run whose caller does no more than it must is one whose caller may do more.
+pub run-plain : {R : Type 0} {calls : Calls R} {pieces ahead : List (List ℕ)} {taken : List ℕ} {replies : List R} {s : calls .State}
+    → Run calls ⊥ pieces ahead taken replies s → Run calls Unit pieces ahead taken replies s
+run-plain (starts first) = starts first
+run-plain (offers run may feeds asked) = offers (run-plain run) may feeds asked
+run-plain (asks never run asked) = absurd never
+run-plain (recuts other never run same) = absurd never
+
+-- Where asking ends there are replies that it ends with.
+pub asked-of : {R : Type 0} {calls : Calls R} {s : calls .State} → AskingEnds calls s → (replies : List R) × (u : calls .State) × Asked calls s replies u
+asked-of (asking (no-reply {t} none) on) = ([], t, ends none)
+asked-of (asking (a-reply {t} {reply} gave) on) = let rest = asked-of (on reply t gave) in (reply ∷ rest .0, rest .1, gives gave (rest .2))
+
+-- What is asked so that a run can go on: a piece with a byte may be offered, and each call hands something back
+pub record Able {R : Type 0} (calls : Calls R) : Type 0 where
+  pub first : calls .State
+  pub fresh : calls .Fresh first
+  pub piece : {piece : List ℕ} → 0 < length piece → calls .Piece piece
+  pub feeds : (s : calls .State) (piece : List ℕ) → (n : ℕ) × (t : calls .State) × calls .Feeds s piece n t
+  pub next : (s : calls .State) → Answers calls s
+
+module _ {R : Type 0} (judge : Judge R) (steady : Steady judge) (calls : Calls R) (unread : calls .State → List ℕ) (faithful : Faithful judge calls unread) (able : Able calls) where
+  -- From any point of a run on: each offer takes a byte or more, so that fewer are ahead.
+  runs-end : (k : ℕ) (ahead : List (List ℕ)) {Free : Type 0} {pieces : List (List ℕ)} {taken : List ℕ} {replies : List R} {s : calls .State}
+      → Run calls Free pieces ahead taken replies s → Nonempty ahead → length (joined ahead) < k → Ends calls ahead s
+  runs-end zero ahead run some h = absurd (omega arith)
+  runs-end (suc k) [] run some h = all-taken
+  runs-end (suc k) (piece ∷ ahead) {s = s} run (a-byte, others) h =
+      offering (able .feeds s piece) (λ n t feeds. asking-ends judge steady calls unread (faithful .next) (able .next) t) (λ n t u new feeds asked.
+      let some = takes-some judge steady calls unread faithful run piece a-byte feeds in
+      let fewer = ap (λ (l : List ℕ). length l) (joined-again (drop n piece) ahead) in
+      runs-end k (again (drop n piece) ahead) (offers run (able .piece a-byte) feeds asked) (nonempty-again (drop n piece) ahead others)
+      (omega (arith, some, a-byte, fewer, length-append (drop n piece) (joined ahead), length-drop n piece, length-append piece (joined ahead))))
+
+  pub run-ends : {Free : Type 0} {pieces ahead : List (List ℕ)} {taken : List ℕ} {replies : List R} {s : calls .State}
+      → Run calls Free pieces ahead taken replies s → Nonempty ahead → Ends calls ahead s
+  run-ends {ahead = ahead} run some = runs-end (suc (length (joined ahead))) ahead run some (omega arith)
+
+  ended : {Free : Type 0} {pieces ahead : List (List ℕ)} {taken : List ℕ} {replies : List R} {s : calls .State}
+      → Run calls Free pieces ahead taken replies s → Nonempty ahead → Ends calls ahead s
+      → (gave : List R) × (u : calls .State) × Run calls Free pieces [] (joined pieces) gave u
+  ended {Free} {pieces} {taken = taken} {replies = replies} {s = s} run some all-taken =
+      (replies, s, subst (λ (l : List ℕ). Run calls Free pieces [] l replies s) (sym (run-front run ∙ append-nil taken)) run)
+  ended run (a-byte, others) (offering {ahead} {piece} (n, t, feeds) ending on) =
+      let asked = asked-of (ending n t feeds) in
+      ended (offers run (able .piece a-byte) feeds (asked .2)) (nonempty-again (drop n piece) ahead others) (on n t (asked .1) (asked .0) feeds (asked .2))
+
+  -- Every cutting into pieces with a byte has a run that takes all of it.
+  pub runs-whole : (pieces : List (List ℕ)) → Nonempty pieces → (replies : List R) × (s : calls .State) × Run calls ⊥ pieces [] (joined pieces) replies s
+  runs-whole pieces some = let first = starts (able .fresh) in ended first some (run-ends first some)

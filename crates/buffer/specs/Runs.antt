@@ -1,0 +1,86 @@
+-- Runs: a fresh decoder is handed a stream in pieces, asked after each until it has no reply, and offered again what it
+-- did not take. Of each call only the contract is known: a run is whatever calls that meet their contracts can do one
+-- after the other. Over any decoder: `Calls` says which pieces may be offered and what `feed` and `next` do.
+use mathlib.Core.List.{List, [], _∷_, _++_}
+use mathlib.Core.Path.{_≡_}
+use Prim.Native.Nat.{ℕ, _<_}
+use lib.ListN.{length, take, drop}
+use Rattle.stream.specs.Reading.{FrameAt, repliesOf, joined}
+use Rattle.stream.specs.Lateness.{GivenAt}
+
+-- a decoder that replies with an R; the second state is the one handed back
+pub record Calls (R : Type 0) : Type 1 where
+  pub State : Type 0
+  pub Fresh : State → Type 0
+  -- a piece that may be offered
+  pub Piece : List ℕ → Type 0
+  -- `feed` of the piece, which takes so many bytes of it
+  pub Feeds : State → List ℕ → ℕ → State → Type 0
+  -- `next`, which gives the reply
+  pub Gives : State → R → State → Type 0
+  -- `next`, which gives nothing
+  pub GivesNothing : State → State → Type 0
+
+-- "offer again what it did not take": the pieces ahead, where `left` of the one offered was not taken
+abbrev pub again : List ℕ → List (List ℕ) → List (List ℕ)
+again [] ahead = ahead
+again (byte ∷ left) ahead = (byte ∷ left) ∷ ahead
+
+-- pieces with a byte or more each
+abbrev pub Nonempty : List (List ℕ) → Type 0
+Nonempty [] = Unit
+Nonempty (piece ∷ pieces) = (0 < length piece) × Nonempty pieces
+
+module _ {R : Type 0} (calls : Calls R) where
+  -- "ask until it has no reply": the replies, in order
+  pub data Asked : calls .State → List R → calls .State → Type 0 where
+    ends : {s t : calls .State} → calls .GivesNothing s t → Asked s [] t
+    gives : {s t u : calls .State} {reply : R} {replies : List R} → calls .Gives s reply t → Asked t replies u → Asked s (reply ∷ replies) u
+
+  -- The run of a cutting, `pieces`, at its start or after some `next` that gave nothing: the pieces still ahead, the first
+  -- of them perhaps in part; the bytes taken so far; the replies so far; and the decoder then. `Free` says whether the caller
+  -- may do more than to offer each piece, and again what was not taken of it
+  pub data Run (Free : Type 0) (pieces : List (List ℕ)) : (ahead : List (List ℕ)) (taken : List ℕ) (replies : List R) → calls .State → Type 0 where
+    starts : {s : calls .State} → calls .Fresh s → Run Free pieces pieces [] [] s
+    offers : {ahead : List (List ℕ)} {piece taken : List ℕ} {replies new : List R} {s t u : calls .State} {n : ℕ}
+        → Run Free pieces (piece ∷ ahead) taken replies s → calls .Piece piece → calls .Feeds s piece n t → Asked t new u
+        → Run Free pieces (again (drop n piece) ahead) (taken ++ take n piece) (replies ++ new) u
+    -- to ask again
+    asks : {ahead : List (List ℕ)} {taken : List ℕ} {replies new : List R} {s u : calls .State}
+        → Free → Run Free pieces ahead taken replies s → Asked s new u → Run Free pieces ahead taken (replies ++ new) u
+    -- and to cut anew what is ahead: to offer what was not taken with bytes that follow it, or a part of it alone
+    recuts : {ahead : List (List ℕ)} {taken : List ℕ} {replies : List R} {s : calls .State} (other : List (List ℕ))
+        → Free → Run Free pieces ahead taken replies s → joined other ≡ joined ahead → Run Free pieces other taken replies s
+
+  -- what `next` may hand back
+  pub data Answers (s : calls .State) : Type 0 where
+    a-reply : {t : calls .State} {reply : R} → calls .Gives s reply t → Answers s
+    no-reply : {t : calls .State} → calls .GivesNothing s t → Answers s
+
+  -- `next` returns something, and after each reply that it may give the same holds, to an end
+  pub data AskingEnds : calls .State → Type 0 where
+    asking : {s : calls .State} → Answers s → ((reply : R) (t : calls .State) → calls .Gives s reply t → AskingEnds t) → AskingEnds s
+
+  -- `feed` of the first piece returns something; whatever it returns, asking then ends; and whatever the replies are, the
+  -- same holds of what is then ahead, until nothing is
+  pub data Ends : (ahead : List (List ℕ)) → calls .State → Type 0 where
+    all-taken : {s : calls .State} → Ends [] s
+    offering : {ahead : List (List ℕ)} {piece : List ℕ} {s : calls .State}
+        → (n : ℕ) × (t : calls .State) × calls .Feeds s piece n t
+        → ((n : ℕ) (t : calls .State) → calls .Feeds s piece n t → AskingEnds t)
+        → ((n : ℕ) (t u : calls .State) (new : List R) → calls .Feeds s piece n t → Asked t new u → Ends (again (drop n piece) ahead) u)
+        → Ends (piece ∷ ahead) s
+
+  -- any calls whatever, in any order, from a fresh state on
+  pub data Reached : calls .State → Type 0 where
+    at-first : {s : calls .State} → calls .Fresh s → Reached s
+    by-feed : {s t : calls .State} (piece : List ℕ) (n : ℕ) → Reached s → calls .Feeds s piece n t → Reached t
+    by-reply : {s t : calls .State} (reply : R) → Reached s → calls .Gives s reply t → Reached t
+    by-nothing : {s t : calls .State} → Reached s → calls .GivesNothing s t → Reached t
+
+-- the reply of the frame of n bytes at p is among the replies, at its place in the reading of the uncut stream: behind
+-- those of the frames that the reading gives before it
+pub record GivenSoFar {R : Type 0} (p n : ℕ) (reply : R) (uncut : List (FrameAt R)) (replies : List R) : Type 0 where
+  pub frame : GivenAt p n reply uncut
+  pub later : List R
+  pub exactly : replies ≡ repliesOf (frame .before) ++ reply ∷ later

@@ -1,0 +1,6 @@
+pub mod Payload
+pub mod Encode
+pub mod Writes
+pub mod OneAnswer
+pub mod Limits
+pub mod Written

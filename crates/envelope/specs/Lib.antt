@@ -1,3 +1,0 @@
-pub mod Envelope
-pub mod Longest
-pub mod OneAnswer

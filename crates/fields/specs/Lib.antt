@@ -1,5 +1,0 @@
-pub mod Fields
-pub mod Reading
-pub mod Rows
-pub mod Sorts
-pub mod OneAnswer

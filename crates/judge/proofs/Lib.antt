@@ -1,0 +1,10 @@
+pub mod Places
+pub mod Order
+pub mod Prefix
+pub mod Full
+pub mod Parts
+pub mod Sized
+pub mod OwnBytes
+pub mod Good
+pub mod Longest
+pub mod ResetStats

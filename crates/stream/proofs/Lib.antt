@@ -1,0 +1,9 @@
+pub mod Judging
+pub mod Turns
+pub mod Rule
+pub mod Rest
+pub mod Frames
+pub mod Joined
+pub mod Search
+pub mod Seeking
+pub mod Lateness

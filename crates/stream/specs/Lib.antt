@@ -1,0 +1,4 @@
+pub mod Reading
+pub mod Judging
+pub mod Searching
+pub mod Lateness

@@ -1,0 +1,5 @@
+pub mod Rows
+pub mod Scales
+pub mod Absent
+pub mod Nearness
+pub mod Padded

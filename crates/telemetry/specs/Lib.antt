@@ -1,0 +1,3 @@
+pub mod Telemetry
+pub mod Absent
+pub mod Nearness
