@@ -1,3 +1,4 @@
+pub mod Halves
 pub mod NotANumber
 pub mod Held
 pub mod Rounding

@@ -17,10 +17,25 @@ const NAN_BITS: u32 = 0x7fc0_0000;
 
 // The binary32 nearest to `n`, ties to even: Rust's `n as f32`. The one routine that makes a whole
 // number a float.
+//
+// A binary32 has 24 significant bits, and an i32 may need more. So `n` is split into two halves:
+// it is high * 65536 + low, with `high` from -32768 to 32767 and `low` from 0 to 65535. Both have
+// at most 16 bits, so that a float holds each exactly. The product is exact too: 65536 is a power
+// of two, which changes only the exponent. The addition is the one step that rounds: to the nearest
+// binary32, and at a tie to the one whose last bit is 0.
+//
+// Example: 16777219 is 2^24 + 3, so `high` is 256 and `low` is 3. From 2^24 to 2^25 only even
+// numbers are binary32 numbers, and 16777216.0 + 3.0 lies halfway between two of them: 16777218,
+// with the significand 8388609, and 16777220, with 8388610. The second has the last bit 0, and is
+// the result.
+//
+// `>>` rounds down: -1 has the halves -1 and 65535. `/` would round toward zero and make `high` 0.
 pub fn i32_to_f32(n: i32) -> f32
     ensures { λ r. ⌜ r ≡ Ieee.ofInt binary32 n ⌝ }
 {
-    std::num::nearest_i32_to_f32(n)
+    let high = (n >> 16) as i16;
+    let low = (n & 0xffff) as u16;
+    (high as f32) * 65536.0 + (low as f32)
 }
 
 // A field's raw number over its scale, as `unpack_f32` and `unpack_f16` read it.
