@@ -24,10 +24,9 @@ const NAN_BITS: u32 = 0x7fc0_0000;
 // of two, which changes only the exponent. The addition is the one step that rounds: to the nearest
 // binary32, and at a tie to the one whose last bit is 0.
 //
-// Example: 16777219 is 2^24 + 3, so `high` is 256 and `low` is 3. From 2^24 to 2^25 only even
-// numbers are binary32 numbers, and 16777216.0 + 3.0 lies halfway between two of them: 16777218,
-// with the significand 8388609, and 16777220, with 8388610. The second has the last bit 0, and is
-// the result.
+// Example: 16777219 is 2^24 + 3, so `high` is 256 and `low` is 3. Between 2^24 and 2^25 a binary32
+// is a 24-bit number times 2, and 16777216.0 + 3.0 lies halfway between two of these, 8388609 * 2
+// and 8388610 * 2. The last bit of 8388610 is 0, so the result is 8388610 * 2, which is 16777220.
 //
 // `>>` rounds down: -1 has the halves -1 and 65535. `/` would round toward zero and make `high` 0.
 pub fn i32_to_f32(n: i32) -> f32
