@@ -43,8 +43,9 @@ ENCODES ?= 2000
 SEQUENCES ?= 400
 READS ?= 20000
 compare: oracle
-	@mkdir -p target && rt check replay > target/compare.log 2>&1 || { cat target/compare.log >&2; exit 1; }
+	@mkdir -p target && rt check replay vescline > target/compare.log 2>&1 || { cat target/compare.log >&2; exit 1; }
 	@target/oracle/build/release/answers compare $(SEED) $(DECODES) $(ENCODES) $(SEQUENCES) $(READS) tools/run replay
+	@oracle/lines $(SEED)
 
 # Shows that the same comparison finds wrong variants of the Rust, each by name.
 variants: oracle

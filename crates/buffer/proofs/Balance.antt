@@ -1,101 +1,152 @@
--- The line figures: through any calls whatever, fed is handed, passed and held together, while fed is below its top.
-use mathlib.Core.Path.{_≡_, refl, sym, subst}
+-- The line figures: through any calls whatever, each is what the calls did in all, held at the top value. So they balance while fed is below it.
+use mathlib.Core.Path.{_≡_, refl, sym, ap, _∙_, subst}
 use mathlib.Core.List.{List}
 use mathlib.Core.Bool.{Bool, true, false, cond}
 use Prim.Native.Nat.{ℕ, _+_, _-_, _<_, _≤_}
 use native.Mathlib.Omega.{arith}
+use native.Mathlib.Nat.{add-zero}
 use lib.Dec.{ltb, eqb}
 use lib.ListN.{length, take, length-append}
 use lib.Seq.{length-take-le}
 use Rattle.stream.specs.Reading.{Judge, Steady}
 use Rattle.stream.specs.Searching.{Search, found, nothing, sizeFound, search}
 use Rattle.stream.proofs.Search.{movedOver, restOf, search-account}
-use Rattle.buffer.specs.Buffer.{Buffer, fresh, top, atFront, moved, emptied, cleared, fitting, copied, feedCount, fedBuffer, bufferAfter, nextBuffer}
-use Rattle.buffer.specs.Runs.{Calls, Reached, at-first, by-feed, by-reply, by-nothing}
-use Rattle.buffer.proofs.Figures.{capped, raised-below, raised-exact}
+use Rattle.buffer.specs.Buffer.{Buffer, fresh, atMost, top, raised, atFront, moved, allCleared, emptied, copied, feedCount, fedBuffer, bufferAfter, nextCount, nextBuffer}
+use Rattle.buffer.specs.Runs.{Calls, Totals, noneYet, withFeed, withNext, Reached, at-first, by-feed, by-reply, by-nothing}
+use Rattle.buffer.proofs.Figures.{capped, capped-under, raised-total}
+use Rattle.buffer.proofs.Feeding.{taken-most}
 
--- "fed = handed + passed + held"
-abbrev pub Balanced : Buffer → Type 0
-Balanced buffer = buffer .fed ≡ buffer .handed + buffer .passed + length (buffer .unread)
+-- the figures of the buffer are what calls did in all, and every byte that was copied is accounted for
+pub record Tells (totals : Totals) (buffer : Buffer) : Type 0 where
+  pub fed : buffer .fed ≡ atMost top (totals .bytesCopied)
+  pub handed : buffer .handed ≡ atMost top (totals .bytesGiven)
+  pub passed : buffer .passed ≡ atMost top (totals .bytesMovedOver)
+  pub cleared : buffer .cleared ≡ atMost top (totals .bytesCleared)
+  pub account : totals .bytesCopied ≡ totals .bytesGiven + totals .bytesMovedOver + totals .bytesCleared + length (buffer .unread)
 
--- ---- `feed`, part by part: the balance is kept, and fed was no higher before
+-- A total, n higher: so is its figure.
+rises : {figure : ℕ} (total n m : ℕ) → figure ≡ atMost top total → n ≡ m → raised figure n ≡ atMost top (total + m)
+rises total n m e same = ap (λ (k : ℕ). raised k n) e ∙ raised-total total n ∙ ap (λ (k : ℕ). atMost top (total + k)) same
 
--- what the balance needs of a change that copies nothing
-record Keeps (buffer after : Buffer) : Type 0 where
-  same-fed : after .fed ≡ buffer .fed
-  balanced : buffer .fed < top → Balanced buffer → Balanced after
+stays : {figure : ℕ} (total : ℕ) → figure ≡ atMost top total → figure ≡ atMost top (total + 0)
+stays total e = e ∙ ap (λ (k : ℕ). atMost top k) (sym (add-zero total))
 
-moved-keeps : (n : ℕ) (buffer : Buffer) → Keeps buffer (moved n buffer)
+-- ---- `feed`, part by part
+
+moved-tells : (n : ℕ) (totals : Totals) (buffer : Buffer) → Tells totals buffer → Tells totals (moved n buffer)
 unfolding moved
-moved-keeps n buffer = by (ltb (512 - buffer .wpos) n)
+moved-tells n totals buffer t = by (ltb (512 - buffer .wpos) n)
   where
-    by : (b : Bool) → Keeps buffer (cond b (atFront buffer) buffer)
-    by true = record { same-fed = refl; balanced = λ t h. h }
-    by false = record { same-fed = refl; balanced = λ t h. h }
+    by : (b : Bool) → Tells totals (cond b (atFront buffer) buffer)
+    by true = record { fed = t .fed; handed = t .handed; passed = t .passed; cleared = t .cleared; account = t .account }
+    by false = t
 
-cleared-keeps : (buffer : Buffer) → Keeps buffer (cleared buffer)
-unfolding cleared
-cleared-keeps buffer = by (eqb (buffer .wpos) 512)
+-- n bytes more cleared
+abbrev withCleared : ℕ → Totals → Totals
+withCleared n totals =
+    record { bytesCopied = totals .bytesCopied; bytesGiven = totals .bytesGiven; bytesMovedOver = totals .bytesMovedOver; bytesCleared = totals .bytesCleared + n }
+
+emptied-tells : (totals : Totals) (buffer : Buffer) → Tells totals buffer → (n : ℕ) × Tells (withCleared n totals) (emptied buffer)
+unfolding emptied
+emptied-tells totals buffer t = by (eqb (buffer .wpos) 512)
   where
-    by : (b : Bool) → Keeps buffer (cond b (emptied buffer) buffer)
-    by true = record { same-fed = refl; balanced = λ t h. omega (arith, raised-exact (buffer .passed) (length (buffer .unread)) (omega arith)) }
-    by false = record { same-fed = refl; balanced = λ t h. h }
+    by : (b : Bool) → (n : ℕ) × Tells (withCleared n totals) (cond b (allCleared buffer) buffer)
+    by true =
+        let n = length (buffer .unread) in
+        (n, record { fed = t .fed; handed = t .handed; passed = t .passed; cleared = rises (totals .bytesCleared) n n (t .cleared) refl; account = omega (arith, t .account) })
+    by false = (0, record { fed = t .fed; handed = t .handed; passed = t .passed; cleared = stays (totals .bytesCleared) (t .cleared); account = omega (arith, t .account) })
 
--- what it needs of any call: a fed below the top was so before
-pub record Balances (buffer after : Buffer) : Type 0 where
-  pub rises : after .fed < top → buffer .fed < top
-  pub balanced : after .fed < top → Balanced buffer → Balanced after
+-- n bytes more copied
+abbrev withCopied : ℕ → Totals → Totals
+withCopied n totals =
+    record { bytesCopied = totals .bytesCopied + n; bytesGiven = totals .bytesGiven; bytesMovedOver = totals .bytesMovedOver; bytesCleared = totals .bytesCleared }
 
-copied-balances : (piece : List ℕ) (n : ℕ) (buffer : Buffer) → n ≤ length piece → Balances buffer (copied piece n buffer)
+copied-tells : (piece : List ℕ) (n : ℕ) (totals : Totals) (buffer : Buffer) → n ≤ length piece → Tells totals buffer → Tells (withCopied n totals) (copied piece n buffer)
 unfolding copied
-copied-balances piece n buffer h =
+copied-tells piece n totals buffer most t =
     record {
-      rises = λ t. omega (arith, raised-below (buffer .fed) n t);
-      balanced = λ t b. omega (arith, raised-below (buffer .fed) n t, length-append (buffer .unread) (take n piece), length-take-le n piece h);
+      fed = rises (totals .bytesCopied) n n (t .fed) refl;
+      handed = t .handed;
+      passed = t .passed;
+      cleared = t .cleared;
+      account = omega (arith, t .account, length-append (buffer .unread) (take n piece), length-take-le n piece most);
     }
 
-pub feed-balances : (buffer : Buffer) (piece : List ℕ) → Balances buffer (fedBuffer buffer piece)
-unfolding fedBuffer feedCount fitting
-feed-balances buffer piece =
-    let first = moved (length piece) buffer in
-    let ready = cleared first in
-    let m = moved-keeps (length piece) buffer in
-    let c = cleared-keeps first in
-    let g = copied-balances piece _ ready (capped (512 - ready .wpos) (length piece) .high) in
-    let was : fedBuffer buffer piece .fed < top → buffer .fed < top = (λ t. let k : ready .fed < top = g .rises t in omega (arith, m .same-fed, c .same-fed)) in
+-- What is gone was cleared.
+pub feed-tells : (totals : Totals) (buffer : Buffer) (piece : List ℕ) → Tells totals buffer
+    → Tells (withFeed (feedCount buffer piece) (length (buffer .unread)) (length (fedBuffer buffer piece .unread)) totals) (fedBuffer buffer piece)
+unfolding fedBuffer
+feed-tells totals buffer piece t =
+    let n = feedCount buffer piece in
+    let ready = emptied (moved (length piece) buffer) in
+    let after = length (copied piece n ready .unread) in
+    let c = emptied-tells totals (moved (length piece) buffer) (moved-tells (length piece) totals buffer t) in
+    let g = copied-tells piece n (withCleared (c .0) totals) ready (taken-most buffer piece) (c .1) in
+    let gone : c .0 ≡ length (buffer .unread) + n - after = omega (arith, t .account, g .account) in
     record {
-      rises = was;
-      balanced = λ t b. let k : buffer .fed < top = was t in g .balanced t (c .balanced (omega (arith, m .same-fed)) (m .balanced k b));
+      fed = g .fed;
+      handed = g .handed;
+      passed = g .passed;
+      cleared = g .cleared ∙ ap (λ (k : ℕ). atMost top (totals .bytesCleared + k)) gone;
+      account = omega (arith, g .account, gone);
     }
+
+-- ---- `next`: what is gone, and is not of a frame given, was moved over
 
 module _ {R : Type 0} (judge : Judge R) (steady : Steady judge) where
-  search-balances : (buffer : Buffer) (s : Search R) → movedOver s + sizeFound s + length (restOf s) ≡ length (buffer .unread) → Balances buffer (bufferAfter s buffer)
-  search-balances buffer (found over n r after) a =
+  search-tells : (totals : Totals) (buffer : Buffer) (s : Search R) → movedOver s + sizeFound s + length (restOf s) ≡ length (buffer .unread) → Tells totals buffer
+      → Tells (withNext (sizeFound s) (length (buffer .unread)) (length (bufferAfter s buffer .unread)) totals) (bufferAfter s buffer)
+  search-tells totals buffer (found over n r after) a t =
       record {
-        rises = λ t. t;
-        balanced = λ t b. omega (arith, raised-exact (buffer .handed) n (omega arith), raised-exact (buffer .passed) over (omega arith));
+        fed = t .fed;
+        handed = rises (totals .bytesGiven) n n (t .handed) refl;
+        passed = rises (totals .bytesMovedOver) over _ (t .passed) (omega arith);
+        cleared = t .cleared;
+        account = omega (arith, t .account);
       }
-  search-balances buffer (nothing over rest) a =
-      record { rises = λ t. t; balanced = λ t b. omega (arith, raised-exact (buffer .passed) over (omega arith)) }
+  search-tells totals buffer (nothing over rest) a t =
+      record {
+        fed = t .fed;
+        handed = stays (totals .bytesGiven) (t .handed);
+        passed = rises (totals .bytesMovedOver) over _ (t .passed) (omega arith);
+        cleared = t .cleared;
+        account = omega (arith, t .account);
+      }
 
-  pub next-balances : (buffer : Buffer) → Balances buffer (nextBuffer judge buffer)
-  unfolding nextBuffer
-  next-balances buffer = search-balances buffer (search judge (buffer .unread)) (search-account judge steady (buffer .unread))
+  pub next-tells : (totals : Totals) (buffer : Buffer) → Tells totals buffer
+      → Tells (withNext (nextCount judge buffer) (length (buffer .unread)) (length (nextBuffer judge buffer .unread)) totals) (nextBuffer judge buffer)
+  unfolding nextCount nextBuffer
+  next-tells totals buffer = search-tells totals buffer (search judge (buffer .unread)) (search-account judge steady (buffer .unread))
 
--- a decoder, and the buffer that a state of it holds: what each call does to that buffer keeps the balance
-pub record Balancing {R : Type 0} (calls : Calls R) (bufferOf : calls .State → Buffer) : Type 0 where
+-- ---- any calls whatever
+
+-- a decoder, and the buffer that a state of it holds: each call adds to the figures what it did
+pub record Telling {R : Type 0} (calls : Calls R) (bufferOf : calls .State → Buffer) : Type 0 where
   pub fresh : {s : calls .State} → calls .Fresh s → bufferOf s ≡ fresh
-  pub feeds : {s t : calls .State} {piece : List ℕ} {n : ℕ} → calls .Feeds s piece n t → Balances (bufferOf s) (bufferOf t)
-  pub gives : {s t : calls .State} {reply : R} → calls .Gives s reply t → Balances (bufferOf s) (bufferOf t)
-  pub nothing : {s t : calls .State} → calls .GivesNothing s t → Balances (bufferOf s) (bufferOf t)
+  pub feeds : {s t : calls .State} {piece : List ℕ} {n : ℕ} → calls .Feeds s piece n t → (totals : Totals) → Tells totals (bufferOf s)
+      → Tells (withFeed n (length (bufferOf s .unread)) (length (bufferOf t .unread)) totals) (bufferOf t)
+  pub gives : {s t : calls .State} {n : ℕ} {reply : R} → calls .Gives s n reply t → (totals : Totals) → Tells totals (bufferOf s)
+      → Tells (withNext n (length (bufferOf s .unread)) (length (bufferOf t .unread)) totals) (bufferOf t)
+  pub nothing : {s t : calls .State} → calls .GivesNothing s t → (totals : Totals) → Tells totals (bufferOf s)
+      → Tells (withNext 0 (length (bufferOf s .unread)) (length (bufferOf t .unread)) totals) (bufferOf t)
 
-module _ {R : Type 0} (calls : Calls R) (bufferOf : calls .State → Buffer) (balancing : Balancing calls bufferOf) where
-  keeps : {s t : calls .State} → Balances (bufferOf s) (bufferOf t) → (bufferOf s .fed < top → Balanced (bufferOf s)) → bufferOf t .fed < top → Balanced (bufferOf t)
-  keeps b ih below = b .balanced below (ih (b .rises below))
+none-tells : Tells noneYet fresh
+none-tells = record { fed = refl; handed = refl; passed = refl; cleared = refl; account = refl }
 
-  -- "From a fresh state on, while fed is below 2^64 - 1, fed = handed + passed + held": whatever was called.
-  pub reached-balance : {s : calls .State} → Reached calls s → bufferOf s .fed < top → Balanced (bufferOf s)
-  reached-balance (at-first first) below = subst Balanced (sym (balancing .fresh first)) refl
-  reached-balance (by-feed piece n reached feeds) below = keeps (balancing .feeds feeds) (reached-balance reached) below
-  reached-balance (by-reply reply reached gave) below = keeps (balancing .gives gave) (reached-balance reached) below
-  reached-balance (by-nothing reached none) below = keeps (balancing .nothing none) (reached-balance reached) below
+module _ {R : Type 0} (calls : Calls R) (bufferOf : calls .State → Buffer) (telling : Telling calls bufferOf) where
+  -- Each figure alone is what the calls did in all.
+  pub reached-tells : {totals : Totals} {s : calls .State} → Reached calls (λ s. bufferOf s .unread) totals s → Tells totals (bufferOf s)
+  reached-tells (at-first first) = subst (Tells noneYet) (sym (telling .fresh first)) none-tells
+  reached-tells (by-feed reached feeds) = telling .feeds feeds _ (reached-tells reached)
+  reached-tells (by-reply reached gave) = telling .gives gave _ (reached-tells reached)
+  reached-tells (by-nothing reached none) = telling .nothing none _ (reached-tells reached)
+
+-- "while fed is below the top value, fed is handed plus passed plus cleared plus held": no figure is then held at the top.
+pub balance : {totals : Totals} (buffer : Buffer) → Tells totals buffer → buffer .fed < top
+    → buffer .fed ≡ buffer .handed + buffer .passed + buffer .cleared + length (buffer .unread)
+balance {totals} buffer t below =
+    let copied : atMost top (totals .bytesCopied) ≡ totals .bytesCopied = capped top (totals .bytesCopied) .below (omega (arith, t .fed)) in
+    let given = capped-under top (totals .bytesGiven) (omega (arith, t .fed, t .account)) in
+    let over = capped-under top (totals .bytesMovedOver) (omega (arith, t .fed, t .account)) in
+    let lost = capped-under top (totals .bytesCleared) (omega (arith, t .fed, t .account)) in
+    omega (arith, t .fed, t .handed, t .passed, t .cleared, t .account)

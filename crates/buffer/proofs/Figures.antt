@@ -1,9 +1,9 @@
 -- A number held at a top value: `atMost`, and the figures raised by it.
-use mathlib.Core.Path.{_≡_, refl}
+use mathlib.Core.Path.{_≡_, refl, sym, _∙_}
 use mathlib.Core.Bool.{Bool, true, false, cond}
 use Prim.Native.Nat.{ℕ, _+_, _<_, _≤_}
 use native.Mathlib.Omega.{arith}
-use native.Mathlib.Nat.{le-refl}
+use native.Mathlib.Nat.{le-refl, le-antisymm}
 use borrow.Author.Tests.{ltb-true, ltb-false, lt-ltb, le-ltb}
 use lib.Dec.{ltb}
 use Rattle.buffer.specs.Buffer.{atMost, top, raised}
@@ -29,11 +29,15 @@ capped-over most n h = simp (lt-ltb _ _ h)
 pub capped-under : (most n : ℕ) → n ≤ most → atMost most n ≡ n
 capped-under most n h = simp (le-ltb _ _ h)
 
--- A figure below its top is the sum; and so is one whose sum is not over the top.
-pub raised-below : (figure n : ℕ) → raised figure n < top → raised figure n ≡ figure + n
+-- A figure that is a total held at the top, n higher: the total is n higher.
+raised-by : (total n : ℕ) (b c : Bool) → ltb top total ≡ b → ltb top (top + n) ≡ c → raised (cond b top total) n ≡ atMost top (total + n)
 unfolding raised
-raised-below figure n h = capped top (figure + n) .below h
+raised-by total n false c e f = refl
+raised-by total n true true e f = let h : top < total = ltb-true _ _ e in capped-over top (top + n) (ltb-true _ _ f) ∙ sym (capped-over top (total + n) (omega arith))
+raised-by total n true false e f =
+    let h : top < total = ltb-true _ _ e in
+    let k : top + n ≤ top = ltb-false _ _ f in
+    capped-under top (top + n) k ∙ le-antisymm k (omega arith) ∙ sym (capped-over top (total + n) (omega arith))
 
-pub raised-exact : (figure n : ℕ) → figure + n ≤ top → raised figure n ≡ figure + n
-unfolding raised
-raised-exact figure n h = capped-under top (figure + n) h
+pub raised-total : (total n : ℕ) → raised (atMost top total) n ≡ atMost top (total + n)
+raised-total total n = raised-by total n _ _ refl refl

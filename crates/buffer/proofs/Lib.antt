@@ -4,4 +4,5 @@ pub mod Feeding
 pub mod Nexts
 pub mod Runs
 pub mod Balance
+pub mod Use
 pub mod Loss

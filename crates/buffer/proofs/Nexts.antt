@@ -7,18 +7,18 @@ use lib.ListN.{length}
 use Rattle.stream.specs.Reading.{Judge, Steady}
 use Rattle.stream.specs.Searching.{Search, found, nothing, sizeFound, search}
 use Rattle.stream.proofs.Search.{movedOver, restOf, search-account}
-use Rattle.buffer.specs.Buffer.{Buffer, isFound, replyFound, bufferAfter, nextGiven, nextReply, nextBuffer}
+use Rattle.buffer.specs.Buffer.{Buffer, isFound, replyFound, bufferAfter, nextGiven, nextCount, nextReply, nextBuffer}
 use Rattle.buffer.proofs.Feeding.{Fits}
 
 module _ {R : Type 0} (judge : Judge R) (empty : R) where
   -- A search that found a frame, or nothing: the buffer after it has its rest unread.
   pub next-gives : (buffer : Buffer) → nextGiven judge buffer ≡ true
-      → (over : ℕ) × (n : ℕ) × (search judge (buffer .unread) ≡ found over n (nextReply judge empty buffer) (nextBuffer judge buffer .unread))
-  unfolding nextGiven nextReply nextBuffer
+      → (over : ℕ) × (search judge (buffer .unread) ≡ found over (nextCount judge buffer) (nextReply judge empty buffer) (nextBuffer judge buffer .unread))
+  unfolding nextGiven nextCount nextReply nextBuffer
   next-gives buffer = by (search judge (buffer .unread))
     where
-      by : (s : Search R) → isFound s ≡ true → (over : ℕ) × (n : ℕ) × (s ≡ found over n (replyFound empty s) (bufferAfter s buffer .unread))
-      by (found over n r after) e = (over, n, refl)
+      by : (s : Search R) → isFound s ≡ true → (over : ℕ) × (s ≡ found over (sizeFound s) (replyFound empty s) (bufferAfter s buffer .unread))
+      by (found over n r after) e = (over, refl)
       by (nothing over rest) e = let z : _≡_ {A = ℕ} 0 1 = cc in absurd (omega arith)
 
   pub next-nothing : (buffer : Buffer) → nextGiven judge buffer ≡ false → (over : ℕ) × (search judge (buffer .unread) ≡ nothing over (nextBuffer judge buffer .unread))
@@ -30,6 +30,15 @@ module _ {R : Type 0} (judge : Judge R) (empty : R) where
       by (nothing over rest) e = (over, refl)
 
 module _ {R : Type 0} (judge : Judge R) where
+  -- Nothing given has no bytes.
+  pub nothing-count : (buffer : Buffer) → nextGiven judge buffer ≡ false → nextCount judge buffer ≡ 0
+  unfolding nextGiven nextCount
+  nothing-count buffer = by (search judge (buffer .unread))
+    where
+      by : (s : Search R) → isFound s ≡ false → sizeFound s ≡ 0
+      by (found over n r after) e = let z : _≡_ {A = ℕ} 0 1 = cc in absurd (omega arith)
+      by (nothing over rest) e = refl
+
   -- The place where the next byte is written stays.
   pub next-wpos : (buffer : Buffer) → nextBuffer judge buffer .wpos ≡ buffer .wpos
   unfolding nextBuffer

@@ -15,7 +15,7 @@ use Rattle.stream.proofs.Joined.{behind, unreadPlace, reading-joined}
 use Rattle.stream.proofs.Search.{readOn, found-fewer, search-reading}
 use Rattle.stream.proofs.Lateness.{TakenIn, given-in-time, given-stays}
 use Rattle.buffer.specs.Runs.{Calls, again, Nonempty, Asked, ends, gives}
-use Rattle.buffer.specs.Runs.{Run, starts, offers, asks, recuts, Answers, a-reply, no-reply, AskingEnds, asking, Ends, all-taken, offering, Reached, at-first, by-feed, by-reply, by-nothing, GivenSoFar}
+use Rattle.buffer.specs.Runs.{Run, starts, offers, asks, recuts, Answers, a-reply, no-reply, AskingEnds, asking, Ends, all-taken, offering, GivenSoFar}
 
 -- What is ahead is what was not taken, and the pieces behind it.
 joined-again : (left : List ℕ) (ahead : List (List ℕ)) → joined (again left ahead) ≡ left ++ joined ahead
@@ -40,7 +40,7 @@ run-front (recuts {taken = taken} other may run same) = run-front run ∙ ap (λ
 
 -- What is asked of the calls, where `unread` are the bytes that a state holds unread. `next` is one search of them
 pub record Searches {R : Type 0} (judge : Judge R) (calls : Calls R) (unread : calls .State → List ℕ) : Type 0 where
-  pub gives : {s t : calls .State} {reply : R} → calls .Gives s reply t → (over : ℕ) × (n : ℕ) × (search judge (unread s) ≡ found over n reply (unread t))
+  pub gives : {s t : calls .State} {n : ℕ} {reply : R} → calls .Gives s n reply t → (over : ℕ) × (search judge (unread s) ≡ found over n reply (unread t))
   pub nothing : {s t : calls .State} → calls .GivesNothing s t → (over : ℕ) × (search judge (unread s) ≡ nothing over (unread t))
 
 -- and `feed` of a piece that may be offered, once asked until nothing came, loses nothing, and takes a byte if there is one
@@ -49,6 +49,8 @@ pub record Faithful {R : Type 0} (judge : Judge R) (calls : Calls R) (unread : c
   pub fresh : {s : calls .State} → calls .Fresh s → unread s ≡ []
   pub feeds : {s t : calls .State} {piece : List ℕ} {n : ℕ} → judge (unread s) ≡ notYet → calls .Piece piece → calls .Feeds s piece n t → unread t ≡ unread s ++ take n piece
   pub some : {s t : calls .State} {piece : List ℕ} {n : ℕ} → judge (unread s) ≡ notYet → 0 < length piece → calls .Feeds s piece n t → 0 < n
+  -- and never more than is offered
+  pub most : {s t : calls .State} {piece : List ℕ} {n : ℕ} → calls .Feeds s piece n t → n ≤ length piece
 
 -- the replies, and what is left unread, are what the reading of l gives and leaves, wherever l stands
 pub record Comes {R : Type 0} (judge : Judge R) (replies : List R) (rest l : List ℕ) : Type 0 where
@@ -85,19 +87,19 @@ module _ {R : Type 0} (judge : Judge R) (steady : Steady judge) (calls : Calls R
 
   pub asked-comes : {s u : calls .State} {replies : List R} → Asked calls s replies u → Comes judge replies (unread u) (unread s)
   asked-comes {s} (ends none) = comes-by judge steady (unread s) _ (searched (unread s) _ (next .nothing none .1)) (λ place. refl) (λ place. refl)
-  asked-comes {s} (gives {reply = reply} gave asked) =
+  asked-comes {s} (gives {n = n} {reply = reply} gave asked) =
       let c = asked-comes asked in
       let f = next .gives gave in
-      comes-by judge steady (unread s) _ (searched (unread s) _ (f .2)) (λ place. ap (λ (q : List R). reply ∷ q) (c .same-replies (place + f .0 + f .1)))
-      (λ place. c .same-rest (place + f .0 + f .1))
+      comes-by judge steady (unread s) _ (searched (unread s) _ (f .1)) (λ place. ap (λ (q : List R). reply ∷ q) (c .same-replies (place + f .0 + n)))
+      (λ place. c .same-rest (place + f .0 + n))
 
   -- Each reply leaves fewer bytes unread.
-  pub gives-fewer : {s t : calls .State} {reply : R} → calls .Gives s reply t → length (unread t) < length (unread s)
-  gives-fewer {s} {t} {reply} gave = let f = next .gives gave in found-fewer judge steady (unread s) (f .0) (f .1) reply (unread t) (f .2)
+  pub gives-fewer : {s t : calls .State} {n : ℕ} {reply : R} → calls .Gives s n reply t → length (unread t) < length (unread s)
+  gives-fewer {s} {t} {n} {reply} gave = let f = next .gives gave in found-fewer judge steady (unread s) (f .0) n reply (unread t) (f .1)
 
   ends-in : (k : ℕ) (s : calls .State) → ((t : calls .State) → Answers calls t) → length (unread s) < k → AskingEnds calls s
   ends-in zero s answers h = absurd (omega arith)
-  ends-in (suc k) s answers h = asking (answers s) (λ reply t gave. ends-in k t answers (omega (arith, gives-fewer gave)))
+  ends-in (suc k) s answers h = asking (answers s) (λ n reply t gave. ends-in k t answers (omega (arith, gives-fewer gave)))
 
   -- So where `next` always hands something back, asking ends.
   pub asking-ends : ((t : calls .State) → Answers calls t) → (s : calls .State) → AskingEnds calls s
@@ -144,18 +146,6 @@ module _ {R : Type 0} (judge : Judge R) (steady : Steady judge) (calls : Calls R
     pub takes-some : {t : calls .State} {n : ℕ} (piece : List ℕ) → 0 < length piece → calls .Feeds s piece n t → 0 < n
     takes-some piece some feeds = faithful .some run-waits some feeds
 
--- Every state of a run is one that calls make of a fresh one.
-asked-reached : {R : Type 0} {calls : Calls R} {s u : calls .State} {replies : List R} → Reached calls s → Asked calls s replies u → Reached calls u
-asked-reached reached (ends none) = by-nothing reached none
-asked-reached reached (gives {reply = reply} gave asked) = asked-reached (by-reply reply reached gave) asked
-
-pub run-reached : {R : Type 0} {calls : Calls R} {Free : Type 0} {pieces ahead : List (List ℕ)} {taken : List ℕ} {replies : List R} {s : calls .State}
-    → Run calls Free pieces ahead taken replies s → Reached calls s
-run-reached (starts first) = at-first first
-run-reached (offers {piece = piece} {n = n} run may feeds asked) = asked-reached (by-feed piece n (run-reached run) feeds) asked
-run-reached (asks may run asked) = asked-reached (run-reached run) asked
-run-reached (recuts other may run same) = run-reached run
-
 -- A run whose caller does no more than it must is one whose caller may do more.
 pub run-plain : {R : Type 0} {calls : Calls R} {pieces ahead : List (List ℕ)} {taken : List ℕ} {replies : List R} {s : calls .State}
     → Run calls ⊥ pieces ahead taken replies s → Run calls Unit pieces ahead taken replies s
@@ -167,7 +157,7 @@ run-plain (recuts other never run same) = absurd never
 -- Where asking ends there are replies that it ends with.
 pub asked-of : {R : Type 0} {calls : Calls R} {s : calls .State} → AskingEnds calls s → (replies : List R) × (u : calls .State) × Asked calls s replies u
 asked-of (asking (no-reply {t} none) on) = ([], t, ends none)
-asked-of (asking (a-reply {t} {reply} gave) on) = let rest = asked-of (on reply t gave) in (reply ∷ rest .0, rest .1, gives gave (rest .2))
+asked-of (asking (a-reply {t} {n} {reply} gave) on) = let rest = asked-of (on n reply t gave) in (reply ∷ rest .0, rest .1, gives gave (rest .2))
 
 -- What is asked so that a run can go on: a piece with a byte may be offered, and each call hands something back
 pub record Able {R : Type 0} (calls : Calls R) : Type 0 where

@@ -16,10 +16,11 @@ pub record Buffer : Type 0 where
   pub fed : ℕ
   pub handed : ℕ
   pub passed : ℕ
+  pub cleared : ℕ
 
 -- "a fresh one"
 abbrev pub fresh : Buffer
-fresh = record { unread = []; wpos = 0; fed = 0; handed = 0; passed = 0 }
+fresh = record { unread = []; wpos = 0; fed = 0; handed = 0; passed = 0; cleared = 0 }
 
 -- n, or `most` where n is above it
 abbrev pub atMost : ℕ → ℕ → ℕ
@@ -37,19 +38,21 @@ raised figure n = atMost top (figure + n)
 
 -- "unread bytes move to the front"
 abbrev pub atFront : Buffer → Buffer
-atFront buffer = record { unread = buffer .unread; wpos = length (buffer .unread); fed = buffer .fed; handed = buffer .handed; passed = buffer .passed }
+atFront buffer =
+    record { unread = buffer .unread; wpos = length (buffer .unread); fed = buffer .fed; handed = buffer .handed; passed = buffer .passed; cleared = buffer .cleared }
 
 -- "if the piece is longer than the free tail": n is the length of the piece
 unfoldable pub moved : ℕ → Buffer → Buffer
 moved n buffer = cond (ltb (capacity - buffer .wpos) n) (atFront buffer) buffer
 
--- "everything unread is cleared"; passed: "the unread bytes at each clearing"
-abbrev pub emptied : Buffer → Buffer
-emptied buffer = record { unread = []; wpos = 0; fed = buffer .fed; handed = buffer .handed; passed = raised (buffer .passed) (length (buffer .unread)) }
+-- "everything unread is cleared". Document 02, W3: "Give cleared its own figure": the unread bytes at each clearing
+abbrev pub allCleared : Buffer → Buffer
+allCleared buffer =
+    record { unread = []; wpos = 0; fed = buffer .fed; handed = buffer .handed; passed = buffer .passed; cleared = raised (buffer .cleared) (length (buffer .unread)) }
 
 -- "If the buffer is then filled to its end"
-unfoldable pub cleared : Buffer → Buffer
-cleared buffer = cond (eqb (buffer .wpos) capacity) (emptied buffer) buffer
+unfoldable pub emptied : Buffer → Buffer
+emptied buffer = cond (eqb (buffer .wpos) capacity) (allCleared buffer) buffer
 
 -- "as much as fits"
 unfoldable pub fitting : ℕ → Buffer → ℕ
@@ -58,14 +61,14 @@ fitting n buffer = atMost (capacity - buffer .wpos) n
 -- "is copied": n bytes of the piece; fed: "bytes copied"
 unfoldable pub copied : List ℕ → ℕ → Buffer → Buffer
 copied piece n buffer =
-    record { unread = buffer .unread ++ take n piece; wpos = buffer .wpos + n; fed = raised (buffer .fed) n; handed = buffer .handed; passed = buffer .passed }
+    record { unread = buffer .unread ++ take n piece; wpos = buffer .wpos + n; fed = raised (buffer .fed) n; handed = buffer .handed; passed = buffer .passed; cleared = buffer .cleared }
 
 -- "and that count returned"
 unfoldable pub feedCount : Buffer → List ℕ → ℕ
-feedCount buffer piece = fitting (length piece) (cleared (moved (length piece) buffer))
+feedCount buffer piece = fitting (length piece) (emptied (moved (length piece) buffer))
 
 unfoldable pub fedBuffer : Buffer → List ℕ → Buffer
-fedBuffer buffer piece = copied piece (feedCount buffer piece) (cleared (moved (length piece) buffer))
+fedBuffer buffer piece = copied piece (feedCount buffer piece) (emptied (moved (length piece) buffer))
 
 -- 2. `next`: one search of the unread bytes
 
@@ -79,12 +82,12 @@ module _ {R : Type 0} where
   replyFound empty (found over n r after) = r
   replyFound empty (nothing over rest) = empty
 
-  -- handed: "bytes of frames given"; passed: "one per byte moved over"
+  -- handed: "bytes of frames given"; passed: "one per byte moved over", and W3: "only bytes moved over by the reading"
   abbrev pub bufferAfter : Search R → Buffer → Buffer
   bufferAfter (found over n r after) buffer =
-      record { unread = after; wpos = buffer .wpos; fed = buffer .fed; handed = raised (buffer .handed) n; passed = raised (buffer .passed) over }
+      record { unread = after; wpos = buffer .wpos; fed = buffer .fed; handed = raised (buffer .handed) n; passed = raised (buffer .passed) over; cleared = buffer .cleared }
   bufferAfter (nothing over rest) buffer =
-      record { unread = rest; wpos = buffer .wpos; fed = buffer .fed; handed = buffer .handed; passed = raised (buffer .passed) over }
+      record { unread = rest; wpos = buffer .wpos; fed = buffer .fed; handed = buffer .handed; passed = raised (buffer .passed) over; cleared = buffer .cleared }
 
   module _ (judge : Judge R) where
     unfoldable pub nextGiven : Buffer → Bool

@@ -3,7 +3,8 @@
 -- after the other. Over any decoder: `Calls` says which pieces may be offered and what `feed` and `next` do.
 use mathlib.Core.List.{List, [], _∷_, _++_}
 use mathlib.Core.Path.{_≡_}
-use Prim.Native.Nat.{ℕ, _<_}
+use mathlib.Core.Bool.{Bool, true, false}
+use Prim.Native.Nat.{ℕ, _+_, _-_, _<_}
 use lib.ListN.{length, take, drop}
 use Rattle.stream.specs.Reading.{FrameAt, repliesOf, joined}
 use Rattle.stream.specs.Lateness.{GivenAt}
@@ -16,8 +17,8 @@ pub record Calls (R : Type 0) : Type 1 where
   pub Piece : List ℕ → Type 0
   -- `feed` of the piece, which takes so many bytes of it
   pub Feeds : State → List ℕ → ℕ → State → Type 0
-  -- `next`, which gives the reply
-  pub Gives : State → R → State → Type 0
+  -- `next`, which gives the reply of a frame of so many bytes
+  pub Gives : State → ℕ → R → State → Type 0
   -- `next`, which gives nothing
   pub GivesNothing : State → State → Type 0
 
@@ -35,7 +36,7 @@ module _ {R : Type 0} (calls : Calls R) where
   -- "ask until it has no reply": the replies, in order
   pub data Asked : calls .State → List R → calls .State → Type 0 where
     ends : {s t : calls .State} → calls .GivesNothing s t → Asked s [] t
-    gives : {s t u : calls .State} {reply : R} {replies : List R} → calls .Gives s reply t → Asked t replies u → Asked s (reply ∷ replies) u
+    gives : {s t u : calls .State} {n : ℕ} {reply : R} {replies : List R} → calls .Gives s n reply t → Asked t replies u → Asked s (reply ∷ replies) u
 
   -- The run of a cutting, `pieces`, at its start or after some `next` that gave nothing: the pieces still ahead, the first
   -- of them perhaps in part; the bytes taken so far; the replies so far; and the decoder then. `Free` says whether the caller
@@ -54,12 +55,12 @@ module _ {R : Type 0} (calls : Calls R) where
 
   -- what `next` may hand back
   pub data Answers (s : calls .State) : Type 0 where
-    a-reply : {t : calls .State} {reply : R} → calls .Gives s reply t → Answers s
+    a-reply : {t : calls .State} {n : ℕ} {reply : R} → calls .Gives s n reply t → Answers s
     no-reply : {t : calls .State} → calls .GivesNothing s t → Answers s
 
   -- `next` returns something, and after each reply that it may give the same holds, to an end
   pub data AskingEnds : calls .State → Type 0 where
-    asking : {s : calls .State} → Answers s → ((reply : R) (t : calls .State) → calls .Gives s reply t → AskingEnds t) → AskingEnds s
+    asking : {s : calls .State} → Answers s → ((n : ℕ) (reply : R) (t : calls .State) → calls .Gives s n reply t → AskingEnds t) → AskingEnds s
 
   -- `feed` of the first piece returns something; whatever it returns, asking then ends; and whatever the replies are, the
   -- same holds of what is then ahead, until nothing is
@@ -71,12 +72,58 @@ module _ {R : Type 0} (calls : Calls R) where
         → ((n : ℕ) (t u : calls .State) (new : List R) → calls .Feeds s piece n t → Asked t new u → Ends (again (drop n piece) ahead) u)
         → Ends (piece ∷ ahead) s
 
-  -- any calls whatever, in any order, from a fresh state on
-  pub data Reached : calls .State → Type 0 where
-    at-first : {s : calls .State} → calls .Fresh s → Reached s
-    by-feed : {s t : calls .State} (piece : List ℕ) (n : ℕ) → Reached s → calls .Feeds s piece n t → Reached t
-    by-reply : {s t : calls .State} (reply : R) → Reached s → calls .Gives s reply t → Reached t
-    by-nothing : {s t : calls .State} → Reached s → calls .GivesNothing s t → Reached t
+  -- The states of a run, also those between a `feed` and the `next` that gives nothing. `asked` is true where the last call was
+  -- such a `next`, or there was none yet. Only then is a piece fed
+  pub data InUse : (asked : Bool) → calls .State → Type 0 where
+    is-fresh : {s : calls .State} → calls .Fresh s → InUse true s
+    is-fed : {s t : calls .State} {piece : List ℕ} {n : ℕ} → InUse true s → calls .Piece piece → calls .Feeds s piece n t → InUse false t
+    gave-reply : {asked : Bool} {s t : calls .State} {n : ℕ} {reply : R} → InUse asked s → calls .Gives s n reply t → InUse false t
+    gave-nothing : {asked : Bool} {s t : calls .State} → InUse asked s → calls .GivesNothing s t → InUse true t
+
+-- how many bytes calls copied, gave, moved over and cleared in all
+pub record Totals : Type 0 where
+  pub bytesCopied : ℕ
+  pub bytesGiven : ℕ
+  pub bytesMovedOver : ℕ
+  pub bytesCleared : ℕ
+
+abbrev pub noneYet : Totals
+noneYet = record { bytesCopied = 0; bytesGiven = 0; bytesMovedOver = 0; bytesCleared = 0 }
+
+-- with one more `feed`, which copied n bytes; `before` bytes were unread before it, `after` bytes after it. What is gone was cleared
+abbrev pub withFeed : (n before after : ℕ) → Totals → Totals
+withFeed n before after totals =
+    record {
+      bytesCopied = totals .bytesCopied + n;
+      bytesGiven = totals .bytesGiven;
+      bytesMovedOver = totals .bytesMovedOver;
+      bytesCleared = totals .bytesCleared + (before + n - after);
+    }
+
+-- with one more `next`, which gave a frame of n bytes, or nothing, and then n is 0. What is gone besides was moved over
+abbrev pub withNext : (n before after : ℕ) → Totals → Totals
+withNext n before after totals =
+    record {
+      bytesCopied = totals .bytesCopied;
+      bytesGiven = totals .bytesGiven + n;
+      bytesMovedOver = totals .bytesMovedOver + (before - n - after);
+      bytesCleared = totals .bytesCleared;
+    }
+
+module _ {R : Type 0} (calls : Calls R) (unread : calls .State → List ℕ) where
+  abbrev held : calls .State → ℕ
+  held s = length (unread s)
+
+  -- any calls whatever, in any order, from a fresh state on, and what they did in all. That is told from outside: by the
+  -- counts that they return, and by how many bytes are unread before and after each
+  pub data Reached : Totals → calls .State → Type 0 where
+    at-first : {s : calls .State} → calls .Fresh s → Reached noneYet s
+    by-feed : {totals : Totals} {s t : calls .State} {piece : List ℕ} {n : ℕ}
+        → Reached totals s → calls .Feeds s piece n t → Reached (withFeed n (held s) (held t) totals) t
+    by-reply : {totals : Totals} {s t : calls .State} {n : ℕ} {reply : R}
+        → Reached totals s → calls .Gives s n reply t → Reached (withNext n (held s) (held t) totals) t
+    by-nothing : {totals : Totals} {s t : calls .State}
+        → Reached totals s → calls .GivesNothing s t → Reached (withNext 0 (held s) (held t) totals) t
 
 -- the reply of the frame of n bytes at p is among the replies, at its place in the reading of the uncut stream: behind
 -- those of the frames that the reading gives before it

@@ -1,5 +1,5 @@
 -- The decoder's calls are what the laws of runs ask for.
-use mathlib.Core.Path.{_≡_, refl, sym, ap, _∙_}
+use mathlib.Core.Path.{_≡_, refl, sym, ap, _∙_, subst}
 use mathlib.Core.List.{List, _++_}
 use mathlib.Core.Bool.{Bool, true, false, cond}
 use Prim.Native.Nat.{ℕ, _-_, _<_, _≤_}
@@ -11,16 +11,17 @@ use lib.Seq.{take-at, drop-at, slice}
 use Rattle.stream.specs.Reading.{notYet}
 use Rattle.stream.specs.Searching.{found, nothing}
 use Rattle.buffer.specs.Buffer.{Buffer, fresh, feedCount, fedBuffer, nextGiven, nextCount, nextReply, nextBuffer}
-use Rattle.buffer.proofs.Feeding.{Fits, Taken, feed-fits, taken}
-use Rattle.buffer.proofs.Nexts.{next-gives, next-nothing, next-fits}
+use Rattle.buffer.proofs.Feeding.{Fits, Taken, feed-fits, taken-most, taken}
+use Rattle.buffer.proofs.Nexts.{next-gives, next-nothing, nothing-count, next-fits}
 use Rattle.buffer.specs.Runs.{Answers, a-reply, no-reply}
 use Rattle.buffer.proofs.Runs.{Searches, Faithful, Able}
-use Rattle.buffer.proofs.Balance.{Balancing, feed-balances, next-balances}
+use Rattle.buffer.specs.Runs.{Totals, withFeed, withNext}
+use Rattle.buffer.proofs.Balance.{Tells, Telling, feed-tells, next-tells}
 use Rattle.reply.specs.Reply.{emptyReply}
 use Rattle.decoder.specs.declared.Decoder.{Decoder}
 use Rattle.decoder.specs.Judge.{decodeJudge}
-use Rattle.decoder.specs.State.{bufferOf, fieldsBuffer, BufferIs}
-use Rattle.decoder.specs.Runs.{callsBy, FeedTakes, calls}
+use Rattle.decoder.specs.State.{bufferOf, fieldsBuffer, BufferIs, heldOf, figuresOf}
+use Rattle.decoder.specs.Runs.{callsBy, FeedTakes, calls, figuresBy}
 use Rattle.decoder.proofs.Judging.{decode-steady, decode-bounded}
 use Rattle.decoder.proofs.States.{holds}
 
@@ -47,17 +48,17 @@ holder buffer f =
     let front : List ℕ = replicate r 0 in
     let used = front ++ buffer .unread in
     let tail : List ℕ = replicate (512 - buffer .wpos) 0 in
-    let d : Decoder = record { buf = used ++ tail; rpos = r; wpos = buffer .wpos; fed = buffer .fed; handed = buffer .handed; passed = buffer .passed } in
+    let d : Decoder = record { buf = used ++ tail; rpos = r; wpos = buffer .wpos; fed = buffer .fed; handed = buffer .handed; passed = buffer .passed; cleared = buffer .cleared } in
     let size : length used ≡ buffer .wpos = simp (length-append, length-replicate) (omega arith) in
     let long : length (used ++ tail) ≡ 512 = simp (length-append, length-replicate) (omega arith) in
     let bytes : slice r (buffer .wpos) (used ++ tail) ≡ buffer .unread = ap (drop r) (take-at used tail (buffer .wpos) size) ∙ drop-at front (buffer .unread) r (length-replicate r 0) in
-    (d, holds buffer d (record { low = omega arith; high = f .high; long = long }) bytes refl refl refl refl)
+    (d, holds buffer d (record { low = omega arith; high = f .high; long = long }) bytes refl refl refl refl refl)
 
 -- `feed` of a piece with a byte, where `decodeJudge` cannot tell more
 takes-in : (d : Decoder) (piece : List ℕ) → decodeJudge (unread d) ≡ notYet → 0 < length piece → Taken (bufferOf d) piece
 takes-in d piece waits some =
     let h : 110 ≤ length (unread d) → ⊥ = (λ q. decode-bounded .told (unread d) q waits) in
-    taken (bufferOf d) piece some (omega arith) (fits d)
+    taken (bufferOf d) piece some (omega arith)
 
 -- ---- `next`, beside any feed
 
@@ -65,16 +66,16 @@ module _ (Piece : List ℕ → Type 0) (Feeds : Decoder → List ℕ → ℕ →
   pub next-searches : Searches decodeJudge (callsBy Piece Feeds) unread
   next-searches =
       record {
-        gives = λ {s} (count, is).
+        gives = λ {s} is.
             let n = next-gives decodeJudge emptyReply (bufferOf s) (sym (is .given)) in
-            (n .0, n .1, n .2 ∙ sym (λ i. found (n .0) (n .1) (is .reply i) (is .after .is i .unread)));
+            (n .0, n .1 ∙ sym (λ i. found (n .0) (is .count i) (is .reply i) (is .after .is i .unread)));
         nothing = λ {s} (count, reply, is).
             let n = next-nothing decodeJudge emptyReply (bufferOf s) (sym (is .given)) in
             (n .0, n .1 ∙ ap (λ (l : Buffer). nothing (n .0) (l .unread)) (sym (is .after .is)));
       }
 
   answers-by : (d : Decoder) (b : Bool) → nextGiven decodeJudge (bufferOf d) ≡ b → (e : Decoder) → BufferIs (nextBuffer decodeJudge (bufferOf d)) e → Answers (callsBy Piece Feeds) d
-  answers-by d true g e h = a-reply (nextCount decodeJudge (bufferOf d), record { given = sym g; count = refl; reply = refl; after = h })
+  answers-by d true g e h = a-reply (record { given = sym g; count = refl; reply = refl; after = h })
   answers-by d false g e h = no-reply (nextCount decodeJudge (bufferOf d), nextReply decodeJudge emptyReply (bufferOf d), record { given = sym g; count = refl; reply = refl; after = h })
 
   pub next-answers : (d : Decoder) → Answers (callsBy Piece Feeds) d
@@ -92,6 +93,7 @@ faithful =
       feeds = λ {s} {t} {piece} waits some f.
           ap (λ (l : Buffer). l .unread) (f .after .is) ∙ takes-in s piece waits some .bytes ∙ ap (λ (k : ℕ). unread s ++ take k piece) (sym (f .count));
       some = λ {s} {t} {piece} waits some f. rw (f .count) (takes-in s piece waits some .some);
+      most = λ {s} {t} {piece} f. rw (f .count) (taken-most (bufferOf s) piece);
     }
 
 -- Every `feed` can be answered.
@@ -111,11 +113,29 @@ able =
       next = next-answers _ _;
     }
 
-pub balancing : Balancing calls bufferOf
-balancing =
+-- ---- the line figures, beside any pieces
+
+-- what a call of `feed` or `next` did, by the count that it returned and the decoder
+feed-did : (d e : Decoder) (piece : List ℕ) (n : ℕ) → FeedTakes d piece n e → (totals : Totals) → Tells totals (bufferOf d)
+    → Tells (withFeed n (length (unread d)) (length (unread e)) totals) (bufferOf e)
+feed-did d e piece n f totals t =
+    subst (λ (T : Type 0). T) (sym (λ i. Tells (withFeed (f .count i) (length (unread d)) (length (f .after .is i .unread)) totals) (f .after .is i)))
+    (feed-tells totals (bufferOf d) piece t)
+
+next-did : (d e : Decoder) (n : ℕ) → n ≡ nextCount decodeJudge (bufferOf d) → bufferOf e ≡ nextBuffer decodeJudge (bufferOf d) → (totals : Totals) → Tells totals (bufferOf d)
+    → Tells (withNext n (length (unread d)) (length (unread e)) totals) (bufferOf e)
+next-did d e n count after totals t =
+    subst (λ (T : Type 0). T) (sym (λ i. Tells (withNext (count i) (length (unread d)) (length (after i .unread)) totals) (after i)))
+    (next-tells decodeJudge decode-steady totals (bufferOf d) t)
+
+pub telling : (Piece : List ℕ → Type 0) → Telling (callsBy Piece FeedTakes) bufferOf
+telling Piece =
     record {
       fresh = λ h. h .is;
-      feeds = λ {s} {t} {piece} f. rw (f .after .is) (feed-balances (bufferOf s) piece);
-      gives = λ {s} (count, is). rw (is .after .is) (next-balances decodeJudge decode-steady (bufferOf s));
-      nothing = λ {s} (count, reply, is). rw (is .after .is) (next-balances decodeJudge decode-steady (bufferOf s));
+      feeds = λ {s} {t} {piece} {n} f. feed-did s t piece n f;
+      gives = λ {s} {t} {n} is. next-did s t n (is .count) (is .after .is);
+      nothing = λ {s} {t} (count, reply, is). next-did s t 0 (sym (nothing-count decodeJudge (bufferOf s) (sym (is .given)))) (is .after .is);
     }
+
+pub figures-told : (totals : Totals) (buffer : Buffer) → Tells totals buffer → figuresOf buffer ≡ figuresBy totals (heldOf buffer)
+figures-told totals buffer t = λ i. record { fed = t .fed i; handed = t .handed i; passed = t .passed i; cleared = t .cleared i; held = heldOf buffer }

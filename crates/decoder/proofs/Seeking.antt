@@ -61,7 +61,8 @@ module _ (self d : Decoder) (h : BufferIs (bufferOf self) d) (r : Next) where
         after = subst (λ (l : Buffer). BufferIs l (r .decoder)) (λ i. bufferAfter (searched i) (buffer i)) (n .after);
       }
 
-  module _ (same-buf : r .decoder .buf ≡ d .buf) (same-wpos : r .decoder .wpos ≡ d .wpos) (same-fed : r .decoder .fed ≡ d .fed) where
+  module _ (same-buf : r .decoder .buf ≡ d .buf) (same-wpos : r .decoder .wpos ≡ d .wpos) (same-fed : r .decoder .fed ≡ d .fed)
+      (same-cleared : r .decoder .cleared ≡ d .cleared) where
     -- the read position n bytes further
     further-sound : (n : ℕ) → d .rpos + n ≤ d .wpos → r .decoder .rpos ≡ d .rpos + n → Sound (r .decoder)
     further-sound n fits er = record { low = omega arith; high = omega (arith, h .sound .high); long = ap length same-buf ∙ h .sound .long }
@@ -81,7 +82,7 @@ module _ (self d : Decoder) (h : BufferIs (bufferOf self) d) (r : Next) where
           given = there;
           count = n;
           reply = reply ∙ ap replyIn (sym (drop-take (d .rpos + over) (d .wpos) (d .buf)) ∙ sym (drop-drop over (d .rpos) (take (d .wpos) (d .buf))));
-          after = holds _ (r .decoder) (further-sound (over + count) fits at) (further-fields (over + count) fits at) same-wpos same-fed eh ep;
+          after = holds _ (r .decoder) (further-sound (over + count) fits at) (further-fields (over + count) fits at) same-wpos same-fed eh ep same-cleared;
         })
 
     pub next-nothing : (over : ℕ) → Tells d (Nothing over) → r .given ≡ false → r .count ≡ 0
@@ -93,5 +94,5 @@ module _ (self d : Decoder) (h : BufferIs (bufferOf self) d) (r : Next) where
           given = none;
           count = n;
           reply = reply;
-          after = holds _ (r .decoder) (further-sound over fits er) (further-fields over fits er) same-wpos same-fed eh ep;
+          after = holds _ (r .decoder) (further-sound over fits er) (further-fields over fits er) same-wpos same-fed eh ep same-cleared;
         })

@@ -6,10 +6,10 @@ use native.Mathlib.Omega.{arith}
 use borrow.Author.Tests.{lt-ltb, le-ltb}
 use lib.ListN.{length, take, drop, length-drop}
 use lib.Seq.{paste, length-paste, slice, length-slice}
-use Rattle.buffer.specs.Buffer.{Buffer, fresh, atMost, raised, moved, cleared, fitting, copied}
+use Rattle.buffer.specs.Buffer.{Buffer, fresh, atMost, raised, moved, emptied, fitting, copied}
 use Rattle.buffer.proofs.Figures.{capped}
 use Rattle.buffer.proofs.Copying.{moved-slice, copied-slice}
-use Rattle.buffer.proofs.Feeding.{buffer-same, moved-when, moved-not, cleared-when, cleared-not}
+use Rattle.buffer.proofs.Feeding.{buffer-same, moved-when, moved-not, emptied-when, emptied-not}
 use Rattle.names.proofs.Prefix.{drop-take}
 use Rattle.decoder.specs.declared.Decoder.{Decoder}
 use Rattle.decoder.specs.State.{bufferOf, fieldsBuffer, Sound, BufferIs}
@@ -30,8 +30,8 @@ sound-buffer d s = simp (le-ltb _ _ (s .high), le-ltb _ _ (s .low))
 
 -- A sound decoder holds the buffer that its fields say.
 pub holds : (buffer : Buffer) (d : Decoder) → Sound d → fieldsBuffer d .unread ≡ buffer .unread → d .wpos ≡ buffer .wpos → d .fed ≡ buffer .fed → d .handed ≡ buffer .handed
-    → d .passed ≡ buffer .passed → BufferIs buffer d
-holds buffer d s u w f h p = record { is = sound-buffer d s ∙ buffer-same (fieldsBuffer d) buffer u w f h p; sound = s }
+    → d .passed ≡ buffer .passed → d .cleared ≡ buffer .cleared → BufferIs buffer d
+holds buffer d s u w f h p c = record { is = sound-buffer d s ∙ buffer-same (fieldsBuffer d) buffer u w f h p c; sound = s }
 
 -- how many bytes are unread
 pub unread-length : (d : Decoder) → Sound d → length (fieldsBuffer d .unread) ≡ d .wpos - d .rpos
@@ -46,8 +46,8 @@ lent-unread d = sym (drop-take (d .rpos) (d .wpos) (d .buf))
 module _ (d e : Decoder) (s : Sound d) where
   -- unread bytes moved to the front
   pub moved-holds : (n : ℕ) → 512 - d .wpos < n → e .buf ≡ paste (d .buf) 0 (drop (d .rpos) (d .buf)) (d .wpos - d .rpos) → e .rpos ≡ 0
-      → e .wpos ≡ d .wpos - d .rpos → e .fed ≡ d .fed → e .handed ≡ d .handed → e .passed ≡ d .passed → BufferIs (moved n (bufferOf d)) e
-  moved-holds n h eb er ew ef eh ep =
+      → e .wpos ≡ d .wpos - d .rpos → e .fed ≡ d .fed → e .handed ≡ d .handed → e .passed ≡ d .passed → e .cleared ≡ d .cleared → BufferIs (moved n (bufferOf d)) e
+  moved-holds n h eb er ew ef eh ep ec =
       let lo = s .low in
       let hi = s .high in
       let lg = s .long in
@@ -63,25 +63,28 @@ module _ (d e : Decoder) (s : Sound d) where
       (ew ∙ sym (unread-length d s))
       ef
       eh
-      ep)
+      ep
+      ec)
 
   -- everything unread cleared
-  pub cleared-holds : d .wpos ≡ 512 → e .buf ≡ d .buf → e .rpos ≡ 0 → e .wpos ≡ 0 → e .fed ≡ d .fed → e .handed ≡ d .handed
-      → e .passed ≡ raised (d .passed) (d .wpos - d .rpos) → BufferIs (cleared (bufferOf d)) e
-  cleared-holds h eb er ew ef eh ep =
-      rw (sound-buffer d s, cleared-when (fieldsBuffer d) h)
+  pub emptied-holds : d .wpos ≡ 512 → e .buf ≡ d .buf → e .rpos ≡ 0 → e .wpos ≡ 0 → e .fed ≡ d .fed → e .handed ≡ d .handed → e .passed ≡ d .passed
+      → e .cleared ≡ raised (d .cleared) (d .wpos - d .rpos) → BufferIs (emptied (bufferOf d)) e
+  emptied-holds h eb er ew ef eh ep ec =
+      rw (sound-buffer d s, emptied-when (fieldsBuffer d) h)
       (holds _ e (record { low = omega arith; high = omega arith; long = ap length eb ∙ s .long })
       (λ i. slice (er i) (ew i) (eb i))
       ew
       ef
       eh
-      (ep ∙ ap (raised (d .passed)) (sym (unread-length d s))))
+      ep
+      (ec ∙ ap (raised (d .cleared)) (sym (unread-length d s))))
 
   -- n bytes of the piece copied
   pub copied-holds : (piece : List ℕ) (n : ℕ) → n ≡ atMost (512 - d .wpos) (length piece) → e .buf ≡ paste (d .buf) (d .wpos) piece n → e .rpos ≡ d .rpos
-      → e .wpos ≡ d .wpos + n → e .fed ≡ raised (d .fed) n → e .handed ≡ d .handed → e .passed ≡ d .passed → BufferIs (copied piece n (bufferOf d)) e
+      → e .wpos ≡ d .wpos + n → e .fed ≡ raised (d .fed) n → e .handed ≡ d .handed → e .passed ≡ d .passed → e .cleared ≡ d .cleared
+      → BufferIs (copied piece n (bufferOf d)) e
   unfolding copied
-  copied-holds piece n c eb er ew ef eh ep =
+  copied-holds piece n c eb er ew ef eh ep ec =
       let lo = s .low in
       let hi = s .high in
       let lg = s .long in
@@ -99,14 +102,15 @@ module _ (d e : Decoder) (s : Sound d) where
       ew
       ef
       eh
-      ep)
+      ep
+      ec)
 
 -- where nothing is to be moved or cleared
 pub unmoved-holds : (d : Decoder) (n : ℕ) → Sound d → n ≤ 512 - d .wpos → BufferIs (moved n (bufferOf d)) d
 unmoved-holds d n s h = record { is = sound-buffer d s ∙ sym (ap (moved n) (sound-buffer d s) ∙ moved-not n (fieldsBuffer d) h); sound = s }
 
-pub uncleared-holds : (d : Decoder) → Sound d → (d .wpos ≡ 512 → ⊥) → BufferIs (cleared (bufferOf d)) d
-uncleared-holds d s h = record { is = sound-buffer d s ∙ sym (ap cleared (sound-buffer d s) ∙ cleared-not (fieldsBuffer d) h); sound = s }
+pub not-emptied-holds : (d : Decoder) → Sound d → (d .wpos ≡ 512 → ⊥) → BufferIs (emptied (bufferOf d)) d
+not-emptied-holds d s h = record { is = sound-buffer d s ∙ sym (ap emptied (sound-buffer d s) ∙ emptied-not (fieldsBuffer d) h); sound = s }
 
 -- as much as fits
 pub fitting-buffer : (d : Decoder) (n : ℕ) → Sound d → atMost (512 - d .wpos) n ≡ fitting n (bufferOf d)

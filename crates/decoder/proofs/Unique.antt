@@ -19,6 +19,7 @@ holds-unique buffer d e h k =
       fed = ap (λ (l : Buffer). l .fed) same;
       handed = ap (λ (l : Buffer). l .handed) same;
       passed = ap (λ (l : Buffer). l .passed) same;
+      cleared = ap (λ (l : Buffer). l .cleared) same;
     }
 
 pub one-answer : OneAnswer
@@ -33,5 +34,5 @@ one-answer =
         holds-unique _ (a .decoder) (b .decoder) (p .after) (q .after),
       );
       unused = λ d e s t u.
-          sound-buffer d s ∙ buffer-same (fieldsBuffer d) (fieldsBuffer e) (u .unread) (u .wpos) (u .fed) (u .handed) (u .passed) ∙ sym (sound-buffer e t);
+          sound-buffer d s ∙ buffer-same (fieldsBuffer d) (fieldsBuffer e) (u .unread) (u .wpos) (u .fed) (u .handed) (u .passed) (u .cleared) ∙ sym (sound-buffer e t);
     }

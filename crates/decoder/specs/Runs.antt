@@ -1,13 +1,14 @@
 -- Runs of the decoder: each call may return whatever its contract allows. Crate `buffer` defines a run.
-use mathlib.Core.Bool.{true, false}
+use mathlib.Core.Bool.{Bool, true, false}
 use mathlib.Core.List.{List}
 use Prim.Native.Nat.{ℕ, _<_}
 use lib.ListN.{length}
-use Rattle.buffer.specs.Buffer.{fresh}
+use Rattle.buffer.specs.Buffer.{fresh, atMost, top}
 use Rattle.buffer.specs.Runs as runs
 use Rattle.reply.specs.declared.CommandReply.{CommandReply}
 use Rattle.decoder.specs.declared.Decoder.{Decoder}
-use Rattle.decoder.specs.State.{BufferIs, FeedIs, NextIs}
+use Rattle.decoder.specs.declared.Figures.{Figures}
+use Rattle.decoder.specs.State.{bufferOf, BufferIs, FeedIs, NextIs}
 
 -- with any feed: the pieces that may be offered, and what of one is taken
 abbrev pub callsBy : (List ℕ → Type 0) → (Decoder → List ℕ → ℕ → Decoder → Type 0) → runs.Calls CommandReply
@@ -17,7 +18,7 @@ callsBy Piece Feeds =
       Fresh = λ d. BufferIs fresh d;
       Piece = Piece;
       Feeds = Feeds;
-      Gives = λ d reply e. (count : ℕ) × NextIs d (record { given = true; count = count; reply = reply; decoder = e });
+      Gives = λ d count reply e. NextIs d (record { given = true; count = count; reply = reply; decoder = e });
       GivesNothing = λ d e. (count : ℕ) × (reply : CommandReply) × NextIs d (record { given = false; count = count; reply = reply; decoder = e });
     }
 
@@ -43,6 +44,22 @@ PlainRun = runs.Run calls ⊥
 abbrev pub Ends : (ahead : List (List ℕ)) → Decoder → Type 0
 Ends = runs.Ends calls
 
--- a decoder that any calls make of a fresh one, empty pieces fed too
-abbrev pub Reached : Decoder → Type 0
-Reached = runs.Reached calls
+-- A decoder of a run, also between a `feed` and the `next` that gives nothing. `asked` is true where the last call was such a
+-- `next`, or there was none yet
+abbrev pub InUse : (asked : Bool) → Decoder → Type 0
+InUse = runs.InUse calls
+
+-- a decoder that any calls make of a fresh one, empty pieces fed too, and what these calls did in all
+abbrev pub Reached : runs.Totals → Decoder → Type 0
+Reached = runs.Reached calls (λ d. bufferOf d .unread)
+
+-- the figures, by what the calls did in all: each is "64-bit, holding at the top value"
+abbrev pub figuresBy : runs.Totals → (held : ℕ) → Figures
+figuresBy totals held =
+    record {
+      fed = atMost top (totals .bytesCopied);
+      handed = atMost top (totals .bytesGiven);
+      passed = atMost top (totals .bytesMovedOver);
+      cleared = atMost top (totals .bytesCleared);
+      held = held;
+    }

@@ -24,7 +24,7 @@ use Rattle.decoder.specs.Judge.{decodeJudge}
 -- the buffer, by the fields: unread are the bytes from the read position to the write position
 abbrev pub fieldsBuffer : Decoder → Buffer
 fieldsBuffer d =
-    record { unread = slice (d .rpos) (d .wpos) (d .buf); wpos = d .wpos; fed = d .fed; handed = d .handed; passed = d .passed }
+    record { unread = slice (d .rpos) (d .wpos) (d .buf); wpos = d .wpos; fed = d .fed; handed = d .handed; passed = d .passed; cleared = d .cleared }
 
 -- "A state no calls can make, its read position past its write position or that one past 512, is taken as a fresh one"
 unfoldable pub bufferOf : Decoder → Buffer
@@ -57,9 +57,9 @@ pub record NextIs (self : Decoder) (r : Next) : Type 0 where
 abbrev pub heldOf : Buffer → ℕ
 heldOf buffer = length (buffer .unread)
 
--- the four line figures
+-- the five line figures
 abbrev pub figuresOf : Buffer → Figures
-figuresOf buffer = record { fed = buffer .fed; handed = buffer .handed; passed = buffer .passed; held = heldOf buffer }
+figuresOf buffer = record { fed = buffer .fed; handed = buffer .handed; passed = buffer .passed; cleared = buffer .cleared; held = heldOf buffer }
 
 -- the search that a `Sought` tells of: bytes moved over, and the count of the frame behind them
 abbrev pub searchOf : List ℕ → Sought → Search CommandReply

@@ -7,7 +7,7 @@ ghost use lib.ListN.{length, drop};
 ghost use lib.Seq.{paste};
 ghost use Rattle.format.specs.Format.{capacity};
 ghost use Rattle.stream.specs.Searching.{search};
-ghost use Rattle.buffer.specs.Buffer.{fresh, atMost, raised, moved, cleared, fitting, copied};
+ghost use Rattle.buffer.specs.Buffer.{fresh, atMost, raised, moved, emptied, fitting, copied};
 ghost use Rattle.decoder.specs.Judge.{decodeJudge};
 ghost use Rattle.decoder.specs.State.{bufferOf, Sound, BufferIs, FeedIs, NextIs, heldOf, figuresOf, searchOf};
 use refusals::Consumed;
@@ -22,6 +22,7 @@ pub struct Decoder {
     pub fed: u64,
     pub handed: u64,
     pub passed: u64,
+    pub cleared: u64,
 }
 
 // The answer of `feed`: the bytes taken.
@@ -43,6 +44,7 @@ pub struct Figures {
     pub fed: u64,
     pub handed: u64,
     pub passed: u64,
+    pub cleared: u64,
     pub held: u64,
 }
 
@@ -129,6 +131,7 @@ impl Decoder {
             fed: 0,
             handed: 0,
             passed: 0,
+            cleared: 0,
         }
     }
 
@@ -162,15 +165,15 @@ impl Decoder {
     }
 
     // As in the Rust, also where an empty piece is fed and the tail is full.
-    fn cleared(mut self) -> Decoder
+    fn emptied(mut self) -> Decoder
         requires { ⌜ Sound self ⌝ }
-        ensures { λ r. ⌜ BufferIs (cleared (bufferOf self)) r ⌝ }
+        ensures { λ r. ⌜ BufferIs (emptied (bufferOf self)) r ⌝ }
     {
         let rpos = self.rpos;
         let wpos = self.wpos;
         if wpos == format::CAPACITY {
-            let passed = raise(self.passed, wpos - rpos);
-            self.passed = passed;
+            let cleared = raise(self.cleared, wpos - rpos);
+            self.cleared = cleared;
             self.rpos = 0;
             self.wpos = 0;
             return self;
@@ -197,11 +200,12 @@ impl Decoder {
     }
 
     // Takes as much of the piece as fits. What is not taken is to be fed again. Clears what is unread when
-    // 512 bytes lie unread, and on an empty piece when the tail is full: never feed an empty piece.
+    // 512 bytes lie unread, and on an empty piece when the tail is full: never feed an empty piece. The figure
+    // `cleared` counts what was lost so.
     pub fn feed(self, piece: &[u8]) -> Fed
         ensures { λ r. ⌜ FeedIs self (now (piece .entry)) r ⌝ }
     {
-        self.settled().moved(piece.len()).cleared().copied(piece)
+        self.settled().moved(piece.len()).emptied().copied(piece)
     }
 
     // The next reply among the unread bytes, if a whole frame is there.
@@ -262,6 +266,7 @@ impl Decoder {
             fed: decoder.fed,
             handed: decoder.handed,
             passed: decoder.passed,
+            cleared: decoder.cleared,
             held: unread as u64,
         }
     }

@@ -114,6 +114,13 @@ fn received(start: Decoder, piece: &[u8]) -> Decoder {
     decoder
 }
 
+fn charted(decoder: Decoder) {
+    let figures = decoder.figures();
+    say(b"fed ", figures.fed);
+    say(b"noise ", figures.passed);
+    say(b"lost ", figures.cleared);
+}
+
 fn main() {
     encoding();
     decoding(&[2, 11, 50, 0, 0, 1, 128, 0, 0, 4, 210, 1, 176, 230, 49, 3]);
@@ -141,5 +148,13 @@ fn main() {
     decoding(&[2, 1, 129, 129, 169, 3]);
     decoding(&[2, 1, 129, 129, 168, 3]);
     let decoder = received(Decoder::new(), &[255, 2, 1, 129]);
-    received(decoder, &[129, 169, 3, 2, 1]);
+    let after = received(decoder, &[129, 169, 3, 2, 1]);
+    charted(after);
+    let mut full = [0u8; 512];
+    full[509] = 2;
+    full[510] = 1;
+    full[511] = 129;
+    let half = received(Decoder::new(), &full);
+    let lost = half.feed(&[]);
+    charted(lost.decoder);
 }

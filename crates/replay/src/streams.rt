@@ -32,6 +32,7 @@ fn mix_figures(text: &mut [u8], line: Line, figures: Figures) -> Line {
     let mut now = shows::mix_wide(text, line, figures.fed);
     now = shows::mix_wide(text, now, figures.handed);
     now = shows::mix_wide(text, now, figures.passed);
+    now = shows::mix_wide(text, now, figures.cleared);
     shows::mix_wide(text, now, figures.held)
 }
 
@@ -221,10 +222,11 @@ fn all(text: &mut [u8], start: Run, stream: &[u8], calls: &[u8]) -> Run {
     let mut run = start;
     let mut at: usize = 0;
     while at < calls.len() && 5 <= calls.len() - at {
+        let behind = at + 5;
         let size = number_at(calls, at + 1);
         let times = number_at(calls, at + 3);
         run = repeated(text, run, stream, calls[at], size, times);
-        at += 5;
+        at = behind;
     }
     run
 }

@@ -39,12 +39,13 @@ use Rattle.reply.specs.Decode.{Decode, replyBy, decodeOf, decoded}
 use Rattle.reply.specs.declared.Decoded.{Decoded}
 use Rattle.reply.specs.Reply.{emptyReply}
 use Rattle.stream.proofs.Rule.{reading-by-rule}
-use Rattle.buffer.proofs.Runs.{run-front, run-reached, run-plain}
+use Rattle.buffer.proofs.Runs.{run-front, run-plain}
+use Rattle.buffer.proofs.Use.{run-in-use}
 use Rattle.decoder.specs.Judge.{decodeJudge}
 use Rattle.decoder.proofs.Judging.{decode-steady}
 use Rattle.reply.proofs.Nearness.{decoded-near}
 use Rattle.decoder.proofs.DemandThree as stream
-use Rattle.vesc.specs.Demands.{EncodeRefuses, DecodeRefuses, Fields, fieldsRead, Way, no-start, start-wrong, no-length, no-id, unknown-id, no-field, no-nul, length-wrong, no-end, end-wrong, sum-wrong, good, answerOf, DemandOne, DemandTwo, DemandThree, FiguresBalance, summed}
+use Rattle.vesc.specs.Demands.{EncodeRefuses, DecodeRefuses, Fields, fieldsRead, Way, no-start, start-wrong, no-length, no-id, unknown-id, no-field, no-nul, length-wrong, no-end, end-wrong, sum-wrong, good, answerOf, DemandOne, DemandTwo, DemandThree, LineFigures, summed}
 
 -- ---- a fact or its other side
 by-order : {C : Type 0} (a b : ℕ) → (a < b → C) → (b ≤ a → C) → C
@@ -226,5 +227,13 @@ demand-three =
       takes-some = λ run. stream.takes-some run;
     }
 
-pub figures-balance : FiguresBalance
-figures-balance = record { balance = λ reached. stream.balance reached; in-runs = λ run. run-reached run }
+pub line-figures : LineFigures
+line-figures =
+    record {
+      balance = λ reached. stream.balance reached;
+      alone = λ reached. stream.alone reached;
+      account = λ reached. stream.account reached;
+      none-cleared = λ used. stream.none-cleared used;
+      in-runs = λ run. run-in-use run;
+      in-use = λ used. stream.in-use used;
+    }

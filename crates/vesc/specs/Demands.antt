@@ -38,13 +38,13 @@ use Rattle.reply.specs.declared.CommandReply.{CommandReply}
 use Rattle.stream.specs.Reading as verdict
 use Rattle.stream.specs.Reading.{Reading, readAll, Reads, repliesOf, joined}
 use Rattle.stream.specs.Lateness.{NoneOver}
-use Rattle.buffer.specs.Runs.{Nonempty, GivenSoFar}
+use Rattle.buffer.specs.Runs.{Nonempty, GivenSoFar, Totals}
 use Rattle.decoder.specs.declared.Decoder.{Decoder}
 use Rattle.decoder.specs.declared.Fed.{Fed}
 use Rattle.decoder.specs.declared.Figures.{Figures}
 use Rattle.decoder.specs.Judge.{decodeJudge}
-use Rattle.decoder.specs.State.{bufferOf, figuresOf, FeedIs}
-use Rattle.decoder.specs.Runs.{Run, PlainRun, Ends, Reached}
+use Rattle.decoder.specs.State.{bufferOf, heldOf, figuresOf, FeedIs}
+use Rattle.decoder.specs.Runs.{Run, PlainRun, Ends, InUse, Reached, figuresBy}
 
 -- "1. No call traps, hangs or relies on its caller. IncompleteData, InvalidFrame, UnknownPacket, ChecksumMismatch,
 -- BufferTooSmall and PayloadTooLong come exactly when document 01 says. A refused encode writes nothing."
@@ -197,11 +197,21 @@ pub record DemandThree : Type 0 where
   pub takes-some : {pieces ahead : List (List ℕ)} {taken : List ℕ} {replies : List CommandReply} {d : Decoder} → Run pieces ahead taken replies d
       → (piece : List ℕ) (fed : Fed) → 0 < length piece → FeedIs d piece fed → 0 < fed .count
 
--- Document 01's line figures: "From a fresh state on, while fed is below 2^64 - 1, fed = handed + passed + held".
--- `Reached d`: d comes from a fresh decoder by any calls whatever, empty pieces fed too. `figures` of d returned
--- `figures`
-pub record FiguresBalance : Type 0 where
-  pub balance : {d : Decoder} → Reached d → (figures : Figures) → figures ≡ figuresOf (bufferOf d) → figures .fed < 2 ^ 64 - 1
-      → figures .fed ≡ figures .handed + figures .passed + figures .held
-  -- the decoders of a run are among them
-  pub in-runs : {pieces ahead : List (List ℕ)} {taken : List ℕ} {replies : List CommandReply} {d : Decoder} → Run pieces ahead taken replies d → Reached d
+-- The line figures. Document 02, W3: "Give cleared its own figure and let passed count only bytes moved over by the reading. From
+-- a fresh state on, while fed is below the top value, fed is handed plus passed plus cleared plus held."
+-- `Reached totals d`: d comes from a fresh decoder by any calls whatever, empty pieces fed too, and `totals` is what these calls
+-- copied, gave, moved over and cleared in all (buffer/specs/Runs.antt). `figures` of d returned `figures`. When `feed` clears
+-- is in buffer/specs/Clearing.antt.
+pub record LineFigures : Type 0 where
+  pub balance : {totals : Totals} {d : Decoder} → Reached totals d → (figures : Figures) → figures ≡ figuresOf (bufferOf d) → figures .fed < 2 ^ 64 - 1
+      → figures .fed ≡ figures .handed + figures .passed + figures .cleared + figures .held
+  -- each figure alone: `figuresBy totals` has the four totals, each held at the top value
+  pub alone : {totals : Totals} {d : Decoder} → Reached totals d → (figures : Figures) → figures ≡ figuresOf (bufferOf d) → figures ≡ figuresBy totals (heldOf (bufferOf d))
+  -- every byte copied is in one of them, however many there were
+  pub account : {totals : Totals} {d : Decoder} → Reached totals d
+      → totals .bytesCopied ≡ totals .bytesGiven + totals .bytesMovedOver + totals .bytesCleared + heldOf (bufferOf d)
+  -- In demand 3's use nothing is cleared: after a `next` that gave nothing, and at every moment between
+  pub none-cleared : {asked : Bool} {d : Decoder} → InUse asked d → (figures : Figures) → figures ≡ figuresOf (bufferOf d) → figures .cleared ≡ 0
+  pub in-runs : {pieces ahead : List (List ℕ)} {taken : List ℕ} {replies : List CommandReply} {d : Decoder} → Run pieces ahead taken replies d → InUse true d
+  -- and the decoders of that use are among those that any calls make
+  pub in-use : {asked : Bool} {d : Decoder} → InUse asked d → (totals : Totals) × Reached totals d

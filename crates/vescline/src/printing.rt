@@ -115,6 +115,7 @@ fn figures_line(text: &mut [u8], used: usize, all: Figures) -> usize {
     let mut end = figure(text, used, b"fed ", all.fed);
     end = figure(text, end, b" handed ", all.handed);
     end = figure(text, end, b" passed ", all.passed);
+    end = figure(text, end, b" cleared ", all.cleared);
     end = figure(text, end, b" held ", all.held);
     put(text, end, b'\n')
 }

@@ -1,38 +1,63 @@
-//! The Rust's decoder in the place of `vescline`, and traffic to give to both: for docs/SPEED.md.
+//! The Rust's decoder in the place of `vescline`, and traffic to give to both: for `make compare` and docs/SPEED.md.
 
 use crate::Random;
+use crate::figures::Figured;
 use crate::replies::{any, damaged, id};
 use std::io::{Read, Write};
 use vesc::Decoder;
 
-/// Reads as `vescline` does, 65,536 bytes at a time, and prints the same, but for the figures, which the Rust does not keep.
-pub fn run() {
+/// Reads standard input as `vescline` does, 65,536 bytes at a time, and hands on what came.
+fn pieces(mut take: impl FnMut(&[u8])) {
     let mut input = vec![0u8; 65536];
-    let mut out = std::io::BufWriter::with_capacity(4096, std::io::stdout().lock());
-    let mut decoder = Decoder::default();
-    let mut fed = 0usize;
     loop {
         let n = std::io::stdin().lock().read(&mut input).unwrap();
         if n == 0 {
             break;
         }
+        take(&input[..n]);
+    }
+}
+
+fn output() -> impl Write {
+    std::io::BufWriter::with_capacity(4096, std::io::stdout().lock())
+}
+
+/// Prints what `vescline` prints.
+pub fn run() {
+    let mut out = output();
+    let mut line = Figured::default();
+    pieces(|mut piece| {
+        while !piece.is_empty() {
+            piece = &piece[line.feed(piece)..];
+            while let Some(reply) = line.next().0 {
+                writeln!(out, "{}", id(&reply)).unwrap();
+            }
+        }
+    });
+    let figures = line.figures().map(|(name, figure)| format!("{name} {figure}"));
+    writeln!(out, "{}", figures.join(" ")).unwrap();
+}
+
+/// Prints the ids alone: the Rust keeps no figures, and `make speed` times what the Rust does.
+pub fn bare() {
+    let mut out = output();
+    let mut decoder = Decoder::default();
+    pieces(|piece| {
         let mut at = 0;
-        while at < n {
-            let count = decoder.feed(&input[at..n]).unwrap();
-            at += count;
-            fed += count;
+        while at < piece.len() {
+            at += decoder.feed(&piece[at..]).unwrap();
             for reply in decoder.by_ref() {
                 writeln!(out, "{}", id(&reply)).unwrap();
             }
         }
-    }
-    writeln!(out, "fed {fed}").unwrap();
+    });
 }
 
 /// Good frames, damaged frames and noise: of 10 draws, 6, 1 and 3 (up to 80 bytes each).
 pub fn traffic(args: &[String]) {
     let bytes: usize = args[0].parse().unwrap();
-    let mut random = Random(0x5EED_0006);
+    let seed = args.get(2).map_or(0, |seed| seed.parse().unwrap());
+    let mut random = Random(0x5EED_0006 ^ seed);
     let mut all = Vec::with_capacity(bytes + 256);
     while all.len() < bytes {
         match random.below(10) {

@@ -3,8 +3,9 @@
 //!     answers FOLDER BLOCK..     writes FOLDER/stdin (the cases) and FOLDER/stdout (the Rust's answers)
 //!
 //!     answers compare SEED DECODES ENCODES SEQUENCES READS PROGRAM..     fresh random cases, asked of the Rust and of our PROGRAM
-//!     answers traffic BYTES FILE                                          so many bytes of frames and noise
-//!     answers line                                                        the Rust's decoder in the place of `vescline`
+//!     answers traffic BYTES FILE [SEED]                                   so many bytes of frames and noise
+//!     answers line                                                        the Rust's decoder in the place of `vescline`: prints the same
+//!     answers line bare                                                   the same without the figures, for `make speed`
 //!
 //! A case is a letter, a length (16 bits, big-endian) and so many bytes. Its answer is a line of text that begins with the letter; each
 //! block's file says what stands in its lines. The stored files are made from fixed seeds: the same files each time.
@@ -19,6 +20,7 @@ mod answer;
 mod commands;
 mod compare;
 mod decoder;
+mod figures;
 mod line;
 mod numbers;
 mod replies;
@@ -142,6 +144,7 @@ fn main() {
     match args.get(1).map(String::as_str) {
         Some("compare") => return compare::run(&args[2..]),
         Some("traffic") => return line::traffic(&args[2..]),
+        Some("line") if args.get(2).is_some_and(|how| how == "bare") => return line::bare(),
         Some("line") => return line::run(),
         _ => {}
     }

@@ -5,22 +5,16 @@
 //! SIZE bytes of the stream, which goes on behind the bytes taken; 3 the same, then `next` until nothing comes; 4 SIZE bytes of the
 //! stream are dropped; 5 the last SIZE bytes are offered again.
 //! The answer: `replies NUMBER unread NUMBER DIGEST`. The digest takes in, after each call, what it answered (the count of `feed`; of `next`
-//! whether a reply is given, its count and the whole reply) and the state: the two positions, the four figures and every unread byte.
-//!
-//! The Rust keeps no figures. Those here follow document 01 from what the Rust's calls do to its state: fed, the bytes copied; handed, the bytes
-//! of frames given; passed, the bytes that its read position moved over besides, and the unread bytes that a `feed` let go.
+//! whether a reply is given, its count and the whole reply) and the state: the two positions, the five figures (`figures.rs`) and every unread byte.
 
 use crate::answer::Answer;
-use crate::decoder::Decoder;
+use crate::figures::Figured;
 use crate::replies::{any, damaged, framed, fw_info, fw_version, masked, whole};
 use crate::{Block, Random};
 
 #[derive(Default)]
 struct Run {
-    decoder: Decoder,
-    fed: u64,
-    handed: u64,
-    passed: u64,
+    figured: Figured,
     replies: usize,
     at: usize,
     calls: usize,
@@ -28,14 +22,13 @@ struct Run {
 
 impl Run {
     fn state(&self, answer: &mut Answer) {
-        let unread = self.decoder.unread();
-        answer.wide("rpos", self.decoder.rpos() as u64);
-        answer.wide("wpos", self.decoder.wpos() as u64);
-        answer.wide("fed", self.fed);
-        answer.wide("handed", self.handed);
-        answer.wide("passed", self.passed);
-        answer.wide("held", unread.len() as u64);
-        answer.bytes("unread", unread);
+        let decoder = &self.figured.decoder;
+        answer.wide("rpos", decoder.rpos() as u64);
+        answer.wide("wpos", decoder.wpos() as u64);
+        for (name, figure) in self.figured.figures() {
+            answer.wide(name, figure);
+        }
+        answer.bytes("unread", decoder.unread());
     }
 
     fn named(&mut self, answer: &mut Answer, what: &str) {
@@ -46,29 +39,16 @@ impl Run {
     fn feed(&mut self, answer: &mut Answer, stream: &[u8], size: usize) {
         let piece = &stream[self.at..stream.len().min(self.at + size)];
         self.named(answer, &format!("feed of {} bytes", piece.len()));
-        let before = self.decoder.unread().len();
-        let count = self.decoder.feed(piece).unwrap();
+        let count = self.figured.feed(piece);
         self.at += count;
-        self.fed += count as u64;
-        self.passed += (before + count - self.decoder.unread().len()) as u64;
         answer.wide("count", count as u64);
         self.state(answer);
     }
 
     fn next(&mut self, answer: &mut Answer) -> bool {
         self.named(answer, "next");
-        let (start, before) = (self.decoder.rpos(), self.decoder.unread().to_vec());
-        let reply = self.decoder.next();
-        let moved = self.decoder.rpos() - start;
-        let mut count = 0;
-        if reply.is_some() {
-            self.replies += 1;
-            // the frame that was given is the one that ends where the reading now stands
-            let ends = |p: &usize| crate::decode(&before[*p..]).ok().map(|(n, _)| n).filter(|n| p + n == moved);
-            count = (0..moved).find_map(|p| ends(&p)).unwrap_or(0);
-        }
-        self.handed += count as u64;
-        self.passed += (moved - count) as u64;
+        let (reply, count) = self.figured.next();
+        self.replies += usize::from(reply.is_some());
         answer.flag("given", reply.is_some());
         answer.wide("count", count as u64);
         whole(answer, reply.as_ref());
@@ -115,7 +95,7 @@ pub fn answer(answer: &mut Answer, case: &[u8], stream: &[u8]) {
     answer.say("outcome", "replies");
     answer.say("replies", run.replies);
     answer.say("outcome", "unread");
-    answer.say("unread", run.decoder.unread().len());
+    answer.say("unread", run.figured.decoder.unread().len());
     answer.digest();
 }
 
@@ -157,8 +137,8 @@ impl Script {
             if self.run.at == stream.len() {
                 break;
             }
-            let tail = 512 - self.run.decoder.wpos();
-            let free = 512 - self.run.decoder.unread().len();
+            let tail = 512 - self.run.figured.decoder.wpos();
+            let free = 512 - self.run.figured.decoder.unread().len();
             match random.below(16) {
                 0 => (0..1 + random.below(3)).for_each(|_| self.call(stream, 0, 0)),
                 1 => self.call(stream, 1, 0),
@@ -190,12 +170,12 @@ impl Script {
     fn placed(mut self, random: &mut Random, stream: &[u8], zeros: usize) -> Self {
         self.call(stream, 3, zeros.min(511) + 1);
         for _ in 0..3 {
-            let tail = 512 - self.run.decoder.wpos();
+            let tail = 512 - self.run.figured.decoder.wpos();
             self.call(stream, 2, random.one_of(&[tail, tail, tail.saturating_sub(1), tail / 2]));
             if random.below(4) == 0 {
                 self.call(stream, 1, 0);
             }
-            let free = 512 - self.run.decoder.unread().len();
+            let free = 512 - self.run.figured.decoder.unread().len();
             self.call(stream, 2, random.one_of(&[0, 1, 1, 2, free, free + 1, 4000]));
         }
         self.call(stream, 1, 0);

@@ -38,7 +38,7 @@ returns c =
     let count = c .before .before .before .at-most in (
       count .ensures ∙ fitting-buffer (start .args .t1) _ (start .pre),
       copied-holds (start .args .t1) _ (start .pre) (start .args .piece .now) (count .result) (count .ensures) (c .before .copy-in .ensures) refl refl
-          (c .raise .ensures) refl refl,
+          (c .raise .ensures) refl refl refl,
     )
 
 pub copied-spec : {M : Type 1} → statement M

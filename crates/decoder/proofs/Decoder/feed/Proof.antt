@@ -2,7 +2,7 @@
 use mathlib.Core.Path.{_≡_, ap, _∙_}
 use borrow.Author.Needs.{needs}
 use lib.ListN.{length}
-use Rattle.buffer.specs.Buffer.{moved, cleared, fitting, copied, feedCount, fedBuffer}
+use Rattle.buffer.specs.Buffer.{moved, emptied, fitting, copied, feedCount, fedBuffer}
 use Rattle.decoder.specs.State.{bufferOf}
 use Rattle.decoder.proofs.Decoder.feed.Statement.{statement}
 use Rattle.decoder.proofs.Decoder.feed.Tie as tie
@@ -13,8 +13,8 @@ settled-requires c κs = search needs
 moved-requires : tie.Need-moved-requires
 moved-requires c κs = search needs
 
-cleared-requires : tie.Need-cleared-requires
-cleared-requires c κs = search needs
+emptied-requires : tie.Need-emptied-requires
+emptied-requires c κs = search needs
 
 copied-requires : tie.Need-copied-requires
 copied-requires c κs = search needs
@@ -24,8 +24,8 @@ unfolding feedCount fedBuffer
 returns c =
     let args = c .before .before .before .before .before .args in
     let piece = args .piece .now in
-    let buffer : bufferOf (c .before .cleared .result) ≡ cleared (moved (length piece) (bufferOf (args .self))) =
-    c .before .cleared .ensures .is ∙ ap cleared (c .before .before .moved .ensures .is ∙ ap (moved (length piece)) (c .before .before .before .settled .ensures .is)) in
+    let buffer : bufferOf (c .before .emptied .result) ≡ emptied (moved (length piece) (bufferOf (args .self))) =
+    c .before .emptied .ensures .is ∙ ap emptied (c .before .before .moved .ensures .is ∙ ap (moved (length piece)) (c .before .before .before .settled .ensures .is)) in
     let count = c .copied .ensures .0 ∙ ap (fitting (length piece)) buffer in
     record {
       count = count;
@@ -38,4 +38,4 @@ returns c =
 
 pub feed-spec : {M : Type 1} → statement M
 feed-spec =
-    tie.close (tie.spec settled-requires moved-requires cleared-requires copied-requires returns)
+    tie.close (tie.spec settled-requires moved-requires emptied-requires copied-requires returns)

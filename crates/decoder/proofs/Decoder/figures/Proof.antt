@@ -16,7 +16,7 @@ returns c =
     let settled = c .before .settled in
     let held = held-buffer (settled .result) _ (settled .ensures) in
     let buffer = sym (sound-buffer (settled .result) (settled .ensures .sound)) ∙ settled .ensures .is in
-    λ i. record { fed = buffer i .fed; handed = buffer i .handed; passed = buffer i .passed; held = held i }
+    λ i. record { fed = buffer i .fed; handed = buffer i .handed; passed = buffer i .passed; cleared = buffer i .cleared; held = held i }
 
 pub figures-spec : {M : Type 1} → statement M
 figures-spec = tie.close (tie.spec settled-requires sub-unread returns)

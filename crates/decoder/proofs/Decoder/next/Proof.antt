@@ -82,7 +82,7 @@ returns c =
     let at = found .over .given in
     let sought = found .before .before in
     let settled = sought .before .before .before .before .settled in
-    next-found _ (settled .result) (settled .ensures) _ refl refl refl (at .0 .0) (at .0 .1 .0) (told (settled .result) _ _ (at .1) (sought .seek .ensures)) refl refl
+    next-found _ (settled .result) (settled .ensures) _ refl refl refl refl (at .0 .0) (at .0 .1 .0) (told (settled .result) _ _ (at .1) (sought .seek .ensures)) refl refl
     (c .before .before .reply-in .ensures) refl (c .before .raise .ensures) (c .raise2 .ensures)
 
 returns-2 : tie.Need-returns-2
@@ -90,7 +90,7 @@ returns-2 c =
     let at = c .before .before .before .over2 .given in
     let sought = c .before .before .before .before .before in
     let settled = sought .before .before .before .before .settled in
-    next-nothing _ (settled .result) (settled .ensures) _ refl refl refl (at .0 .0) (told (settled .result) _ _ (at .1) (sought .seek .ensures)) refl refl
+    next-nothing _ (settled .result) (settled .ensures) _ refl refl refl refl (at .0 .0) (told (settled .result) _ _ (at .1) (sought .seek .ensures)) refl refl
     (c .before .empty .ensures) refl refl (c .raise3 .ensures)
 
 pub next-spec : {M : Type 1} → statement M

@@ -18,6 +18,9 @@ loop-holds c = refl
 sub-if1 : tie.Need-sub-if1 Inv-loop μ-loop
 sub-if1 c = search needs
 
+add-behind : tie.Need-add-behind Inv-loop μ-loop
+add-behind c = search needs
+
 add-number-at : tie.Need-add-number-at Inv-loop μ-loop
 add-number-at c = search needs
 
@@ -35,9 +38,6 @@ shared-slice-read-repeated c = search needs
 
 repeated-requires : tie.Need-repeated-requires Inv-loop μ-loop
 repeated-requires c κs = search needs
-
-add-at : tie.Need-add-at Inv-loop μ-loop
-add-at c = search needs
 
 loop-less : tie.Need-loop-less Inv-loop μ-loop
 loop-less c = search needs
@@ -65,13 +65,13 @@ all-spec =
     μ-loop
     loop-holds
     sub-if1
+    add-behind
     add-number-at
     number-at-requires
     add-number-at-2
     number-at-requires-2
     shared-slice-read-repeated
     repeated-requires
-    add-at
     loop-less
     loop-again
     same-length
