@@ -137,7 +137,7 @@ clearing =
 
 -- what `feed` then did: nothing is lost, and a byte or more is taken
 pub record Taken (buffer : Buffer) (piece : List ℕ) : Type 0 where
-  pub bytes : fedBuffer buffer piece .unread ≡ buffer .unread ++ take (feedCount buffer piece) piece
+  pub keeps : Keeps buffer piece
   pub some : 0 < feedCount buffer piece
 
 -- Of a piece with a byte `feed` takes a byte or more and loses nothing, if fewer than 512 bytes are unread.
@@ -146,7 +146,7 @@ unfolding feedCount fitting
 taken buffer piece some short =
     let ready = emptied (moved (length piece) buffer) in
     let f = free buffer (length piece) some short in
-    record { bytes = clearing .not-full buffer piece short some .unread; some = capped (512 - ready .wpos) (length piece) .some (omega (arith, f .room)) some }
+    record { keeps = clearing .not-full buffer piece short some; some = capped (512 - ready .wpos) (length piece) .some (omega (arith, f .room)) some }
 
 pub empty-clears : (buffer : Buffer) → buffer .wpos ≡ 512 → (feedCount buffer [] ≡ 0) × (fedBuffer buffer [] .unread ≡ []) × (fedBuffer buffer [] .wpos ≡ 0)
 unfolding fitting copied

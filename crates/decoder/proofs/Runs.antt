@@ -91,7 +91,7 @@ faithful =
       next = next-searches _ _;
       fresh = λ h. ap (λ (l : Buffer). l .unread) (h .is);
       feeds = λ {s} {t} {piece} waits some f.
-          ap (λ (l : Buffer). l .unread) (f .after .is) ∙ takes-in s piece waits some .bytes ∙ ap (λ (k : ℕ). unread s ++ take k piece) (sym (f .count));
+          ap (λ (l : Buffer). l .unread) (f .after .is) ∙ takes-in s piece waits some .keeps .unread ∙ ap (λ (k : ℕ). unread s ++ take k piece) (sym (f .count));
       some = λ {s} {t} {piece} waits some f. rw (f .count) (takes-in s piece waits some .some);
       most = λ {s} {t} {piece} f. rw (f .count) (taken-most (bufferOf s) piece);
     }
