@@ -2,6 +2,7 @@
 use mathlib.Core.Path.{_≡_, refl, sym, ap, _∙_, subst}
 use mathlib.Core.List.{List}
 use mathlib.Core.Bool.{Bool, true, false, cond}
+use mathlib.Core.Logic.{⊎-elim}
 use Prim.Native.Nat.{ℕ, _+_, _-_, _<_, _≤_}
 use native.Mathlib.Omega.{arith}
 use native.Mathlib.Nat.{add-zero}
@@ -11,10 +12,11 @@ use lib.Seq.{length-take-le}
 use Rattle.stream.specs.Reading.{Judge, Steady}
 use Rattle.stream.specs.Searching.{Search, found, nothing, sizeFound, search}
 use Rattle.stream.proofs.Search.{movedOver, restOf, search-account}
-use Rattle.buffer.specs.Buffer.{Buffer, fresh, atMost, top, raised, atFront, moved, allCleared, emptied, copied, feedCount, fedBuffer, bufferAfter, nextCount, nextBuffer}
+use Rattle.buffer.specs.Buffer.{Buffer, fresh, atMost, top, raised, atFront, moved, allCleared, emptied, copied, feedCount, fedBuffer, gatewayCount, gatewayBuffer, bufferAfter, nextCount, nextBuffer}
 use Rattle.buffer.specs.Runs.{Calls, Totals, noneYet, withFeed, withNext, Reached, at-first, by-feed, by-reply, by-nothing}
 use Rattle.buffer.proofs.Figures.{capped, capped-under, raised-total}
 use Rattle.buffer.proofs.Feeding.{taken-most}
+use Rattle.buffer.proofs.Gateway.{goes, gateway-most}
 
 -- the figures of the buffer are what calls did in all, and every byte that was copied is accounted for
 pub record Tells (totals : Totals) (buffer : Buffer) : Type 0 where
@@ -90,6 +92,32 @@ feed-tells totals buffer piece t =
       cleared = g .cleared ∙ ap (λ (k : ℕ). atMost top (totals .bytesCleared + k)) gone;
       account = omega (arith, g .account, gone);
     }
+
+-- ---- the gateway feed: nothing is gone
+
+-- n bytes copied, and every byte accounted for: none was cleared
+from-copied : (totals : Totals) (before after : Buffer) (n : ℕ) → Tells totals before → Tells (withCopied n totals) after
+    → Tells (withFeed n (length (before .unread)) (length (after .unread)) totals) after
+from-copied totals before after n t g =
+    let none : length (before .unread) + n - length (after .unread) ≡ 0 = omega (arith, t .account, g .account) in
+    record {
+      fed = g .fed;
+      handed = g .handed;
+      passed = g .passed;
+      cleared = stays (totals .bytesCleared) (g .cleared) ∙ ap (λ (k : ℕ). atMost top (totals .bytesCleared + k)) (sym none);
+      account = omega (arith, g .account, none);
+    }
+
+pub gateway-tells : (totals : Totals) (buffer : Buffer) (piece : List ℕ) → Tells totals buffer
+    → Tells (withFeed (gatewayCount buffer piece) (length (buffer .unread)) (length (gatewayBuffer buffer piece .unread)) totals) (gatewayBuffer buffer piece)
+gateway-tells totals buffer piece t =
+    from-copied totals buffer (gatewayBuffer buffer piece) (gatewayCount buffer piece) t
+    (⊎-elim
+    (λ s. subst (λ (T : Type 0). T) (sym (λ i. Tells (withCopied (s .none i) totals) (s .same i)))
+    (record { fed = stays (totals .bytesCopied) (t .fed); handed = t .handed; passed = t .passed; cleared = t .cleared; account = omega (arith, t .account) }))
+    (λ k. subst (λ (T : Type 0). T) (sym (λ i. Tells (withCopied (k .count i) totals) (k .after i)))
+    (copied-tells piece _ totals (moved (length piece) buffer) (rw (k .count) at (gateway-most buffer piece)) (moved-tells (length piece) totals buffer t)))
+    (goes buffer piece))
 
 -- ---- `next`: what is gone, and is not of a frame given, was moved over
 

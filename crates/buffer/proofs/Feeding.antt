@@ -5,17 +5,18 @@ use mathlib.Core.Bool.{Bool, true, false, cond}
 use Prim.Native.Nat.{ℕ, _+_, _-_, _<_, _≤_}
 use native.Mathlib.Omega.{arith}
 use native.Mathlib.Nat.{le-refl, zero-add}
-use borrow.Author.Tests.{ltb-false, lt-ltb, le-ltb, eq-eqb, ne-eqb}
+use borrow.Author.Tests.{ltb-false, lt-ltb, le-ltb, eq-eqb, ne-eqb, eqb-true}
 use lib.Dec.{ltb, eqb}
 use lib.ListN.{length, take, length-append}
 use lib.Seq.{length-take-le, take-length}
-use Rattle.buffer.specs.Buffer.{Buffer, atMost, atFront, moved, allCleared, emptied, fitting, copied, feedCount, fedBuffer}
+use Rattle.buffer.specs.Buffer.{Buffer, atMost, atFront, moved, allCleared, emptied, fitting, markFed, copied, feedCount, fedBuffer, gatewayBuffer}
 use Rattle.buffer.specs.Clearing.{Clears, Keeps, Clearing}
 use Rattle.buffer.proofs.Figures.{capped, capped-under}
 
 -- Two buffers with the same fields.
-pub buffer-same : (a b : Buffer) → a .unread ≡ b .unread → a .wpos ≡ b .wpos → a .fed ≡ b .fed → a .handed ≡ b .handed → a .passed ≡ b .passed → a .cleared ≡ b .cleared → a ≡ b
-buffer-same a b u w f h p c = λ i. record { unread = u i; wpos = w i; fed = f i; handed = h i; passed = p i; cleared = c i }
+pub buffer-same : (a b : Buffer) → a .unread ≡ b .unread → a .wpos ≡ b .wpos → a .fed ≡ b .fed → a .handed ≡ b .handed → a .passed ≡ b .passed → a .cleared ≡ b .cleared
+    → a .drained ≡ b .drained → a ≡ b
+buffer-same a b u w f h p c m = λ i. record { unread = u i; wpos = w i; fed = f i; handed = h i; passed = p i; cleared = c i; drained = m i }
 
 -- ---- the parts of `feed`, by the test that a program makes
 
@@ -37,10 +38,12 @@ emptied-not buffer h = simp (ne-eqb _ _ h)
 
 -- ---- a buffer that calls can make, and that has room
 
--- "A state no calls can make" has its read position past its write position, or that one past 512; this one has neither
+-- "A state no calls can make" has its read position past its write position, or that one past 512; W12: or it is "marked drained with over 109 bytes
+-- unread". This one has none of these
 pub record Fits (buffer : Buffer) : Type 0 where
   pub low : length (buffer .unread) ≤ buffer .wpos
   pub high : buffer .wpos ≤ 512
+  pub few : buffer .drained ≡ true → length (buffer .unread) ≤ 109
 
 -- `feed` of any piece leaves such a buffer.
 moved-fits : (n : ℕ) (buffer : Buffer) → Fits buffer → Fits (moved n buffer)
@@ -48,7 +51,7 @@ unfolding moved
 moved-fits n buffer fits = by (ltb (512 - buffer .wpos) n)
   where
     by : (b : Bool) → Fits (cond b (atFront buffer) buffer)
-    by true = record { low = le-refl _; high = omega arith }
+    by true = record { low = le-refl _; high = omega (arith, fits .low, fits .high); few = fits .few }
     by false = fits
 
 emptied-fits : (buffer : Buffer) → Fits buffer → Fits (emptied buffer)
@@ -56,20 +59,43 @@ unfolding emptied
 emptied-fits buffer fits = by (eqb (buffer .wpos) 512)
   where
     by : (b : Bool) → Fits (cond b (allCleared buffer) buffer)
-    by true = record { low = omega arith; high = omega arith }
+    by true = record { low = omega arith; high = omega arith; few = λ e. omega arith }
     by false = fits
 
-pub feed-fits : (buffer : Buffer) (piece : List ℕ) → Fits buffer → Fits (fedBuffer buffer piece)
-unfolding fedBuffer feedCount fitting copied
-feed-fits buffer piece fits =
-    let ready = emptied (moved (length piece) buffer) in
-    let f : Fits ready = emptied-fits _ (moved-fits (length piece) buffer fits) in
-    let h = capped (512 - ready .wpos) (length piece) in
-    let n = atMost (512 - ready .wpos) (length piece) in
+-- A mark that is there after a feed was there before it, and the piece was empty.
+mark-stays : (piece : List ℕ) (mark : Bool) → markFed piece mark ≡ true → (length piece ≡ 0) × (mark ≡ true)
+mark-stays piece mark = by (eqb (length piece) 0) refl
+  where
+    by : (b : Bool) → eqb (length piece) 0 ≡ b → cond b mark false ≡ true → (length piece ≡ 0) × (mark ≡ true)
+    by true e h = (eqb-true _ _ e, h)
+    by false e h = let z : _≡_ {A = ℕ} 0 1 = cc in absurd (omega arith)
+
+copied-fits : (piece : List ℕ) (buffer : Buffer) → Fits buffer → Fits (copied piece (fitting (length piece) buffer) buffer)
+unfolding fitting copied
+copied-fits piece buffer f =
+    let h = capped (512 - buffer .wpos) (length piece) in
+    let n = atMost (512 - buffer .wpos) (length piece) in
+    let size = length-append (buffer .unread) (take n piece) in
+    let taken = length-take-le n piece (h .high) in
     record {
-      low = omega (arith, length-append (ready .unread) (take n piece), length-take-le n piece (h .high), f .low);
+      low = omega (arith, size, taken, f .low);
       high = omega (arith, h .low, f .high);
+      few = λ e. let m = mark-stays piece (buffer .drained) e in omega (arith, size, taken, h .high, m .0, f .few (m .1));
     }
+
+pub feed-fits : (buffer : Buffer) (piece : List ℕ) → Fits buffer → Fits (fedBuffer buffer piece)
+unfolding fedBuffer feedCount
+feed-fits buffer piece fits = copied-fits piece (emptied (moved (length piece) buffer)) (emptied-fits _ (moved-fits (length piece) buffer fits))
+
+-- and so does the gateway feed.
+pub gateway-fits : (buffer : Buffer) (piece : List ℕ) → Fits buffer → Fits (gatewayBuffer buffer piece)
+unfolding gatewayBuffer
+gateway-fits buffer piece fits = by (eqb (length piece) 0) (buffer .drained)
+  where
+    by : (a b : Bool) → Fits (cond a buffer (cond b (copied piece (fitting (length piece) (moved (length piece) buffer)) (moved (length piece) buffer)) buffer))
+    by true b = fits
+    by false true = copied-fits piece (moved (length piece) buffer) (moved-fits (length piece) buffer fits)
+    by false false = fits
 
 -- what is left free before the copying, with the unread bytes kept and so none cleared
 record Free (buffer ready : Buffer) : Type 0 where

@@ -1,8 +1,10 @@
 pub mod Figures
 pub mod Copying
 pub mod Feeding
+pub mod Gateway
 pub mod Nexts
 pub mod Runs
+pub mod AnyOrder
 pub mod Balance
 pub mod Use
 pub mod Loss

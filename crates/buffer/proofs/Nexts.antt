@@ -1,12 +1,12 @@
 -- What one `next` does, by whether it gives a reply.
-use mathlib.Core.Path.{_≡_, refl}
-use mathlib.Core.Bool.{true, false}
-use Prim.Native.Nat.{ℕ, _+_}
+use mathlib.Core.Path.{_≡_, refl, ap}
+use mathlib.Core.Bool.{Bool, true, false, not}
+use Prim.Native.Nat.{ℕ, _+_, _≤_}
 use native.Mathlib.Omega.{arith}
 use lib.ListN.{length}
-use Rattle.stream.specs.Reading.{Judge, Steady}
+use Rattle.stream.specs.Reading.{Judge, Steady, Bounded}
 use Rattle.stream.specs.Searching.{Search, found, nothing, sizeFound, search}
-use Rattle.stream.proofs.Search.{movedOver, restOf, search-account}
+use Rattle.stream.proofs.Search.{movedOver, restOf, search-account, nothing-waits}
 use Rattle.buffer.specs.Buffer.{Buffer, isFound, replyFound, bufferAfter, nextGiven, nextCount, nextReply, nextBuffer}
 use Rattle.buffer.proofs.Feeding.{Fits}
 
@@ -49,10 +49,31 @@ module _ {R : Type 0} (judge : Judge R) where
       by (nothing over rest) = refl
 
   -- A buffer that calls can make stays one.
-  pub next-fits : Steady judge → (buffer : Buffer) → Fits buffer → Fits (nextBuffer judge buffer)
+  pub next-fits : Steady judge → Bounded judge 110 → (buffer : Buffer) → Fits buffer → Fits (nextBuffer judge buffer)
   unfolding nextBuffer
-  next-fits steady buffer fits = by (search judge (buffer .unread)) (search-account judge steady (buffer .unread))
+  next-fits steady bounded buffer fits = by (search judge (buffer .unread)) refl (search-account judge steady (buffer .unread))
     where
-      by : (s : Search R) → movedOver s + sizeFound s + length (restOf s) ≡ length (buffer .unread) → Fits (bufferAfter s buffer)
-      by (found over n r after) a = record { low = omega arith; high = fits .high }
-      by (nothing over rest) a = record { low = omega arith; high = fits .high }
+      by : (s : Search R) → search judge (buffer .unread) ≡ s → movedOver s + sizeFound s + length (restOf s) ≡ length (buffer .unread) → Fits (bufferAfter s buffer)
+      by (found over n r after) e a =
+          record { low = omega (arith, fits .low); high = fits .high; few = λ q. let z : _≡_ {A = ℕ} 0 1 = cc in absurd (omega arith) }
+      by (nothing over rest) e a =
+          let told : 110 ≤ length rest → ⊥ = (λ q. bounded .told rest q (nothing-waits judge steady (buffer .unread) over rest e)) in
+          record { low = omega (arith, fits .low); high = fits .high; few = λ q. omega arith }
+
+  -- The mark is set exactly where nothing is given.
+  pub next-mark : (buffer : Buffer) (b : Bool) → nextGiven judge buffer ≡ b → nextBuffer judge buffer .drained ≡ not b
+  unfolding nextGiven nextBuffer
+  next-mark buffer b = by (search judge (buffer .unread))
+    where
+      by : (s : Search R) → isFound s ≡ b → bufferAfter s buffer .drained ≡ not b
+      by (found over n r after) e = ap not e
+      by (nothing over rest) e = ap not e
+
+  -- No byte is cleared.
+  pub next-cleared : (buffer : Buffer) → nextBuffer judge buffer .cleared ≡ buffer .cleared
+  unfolding nextBuffer
+  next-cleared buffer = by (search judge (buffer .unread))
+    where
+      by : (s : Search R) → bufferAfter s buffer .cleared ≡ buffer .cleared
+      by (found over n r after) = refl
+      by (nothing over rest) = refl

@@ -5,16 +5,16 @@ use mathlib.Core.List.{List, [], _∷_, _++_, append-assoc, append-nil}
 use Prim.Native.Nat.{ℕ, zero, suc, _+_, _<_, _≤_}
 use native.Mathlib.Omega.{arith}
 use lib.ListN.{length, take, drop, length-append, length-drop, take-append-drop}
+use lib.Seq.{drop-nil}
 use Rattle.stream.specs.Reading.{good, notYet, Judge, Reading, Steady, Bounded, stops, readFrom, readAll, repliesOf, joined}
 use Rattle.stream.specs.Lateness.{NoneOver}
 use Rattle.stream.specs.Searching.{Search, found, nothing, search}
 use Rattle.stream.proofs.Turns.{idle}
-use Rattle.stream.proofs.Rest.{rest-not-yet}
 use Rattle.stream.proofs.Frames.{replies-append, reply-given}
 use Rattle.stream.proofs.Joined.{behind, unreadPlace, reading-joined}
-use Rattle.stream.proofs.Search.{readOn, found-fewer, search-reading}
+use Rattle.stream.proofs.Search.{readOn, found-fewer, nothing-waits, search-reading}
 use Rattle.stream.proofs.Lateness.{TakenIn, given-in-time, given-stays}
-use Rattle.buffer.specs.Runs.{Calls, again, Nonempty, Asked, ends, gives}
+use Rattle.buffer.specs.Runs.{Calls, again, EachPiece, Asked, ends, gives}
 use Rattle.buffer.specs.Runs.{Run, starts, offers, asks, recuts, Answers, a-reply, no-reply, AskingEnds, asking, Ends, all-taken, offering, GivenSoFar}
 
 -- What is ahead is what was not taken, and the pieces behind it.
@@ -22,19 +22,40 @@ joined-again : (left : List ℕ) (ahead : List (List ℕ)) → joined (again lef
 joined-again [] ahead = refl
 joined-again (byte ∷ left) ahead = refl
 
-nonempty-again : (left : List ℕ) (ahead : List (List ℕ)) → Nonempty ahead → Nonempty (again left ahead)
-nonempty-again [] ahead some = some
-nonempty-again (byte ∷ left) ahead some = (omega arith, some)
+-- A part that is offered again has a byte.
+each-again : {P : List ℕ → Type 0} → ((piece : List ℕ) → 0 < length piece → P piece) → (left : List ℕ) (ahead : List (List ℕ)) → EachPiece P ahead → EachPiece P (again left ahead)
+each-again may [] ahead each = each
+each-again may (byte ∷ left) ahead each = (may (byte ∷ left) (omega arith), each)
+
+-- how much is ahead: the bytes, and the pieces, because an empty one is to be offered too
+abbrev size : List (List ℕ) → ℕ
+size ahead = length (joined ahead) + length ahead
+
+-- An offer that takes a byte, or offers none, leaves less ahead.
+less-ahead : (piece : List ℕ) (ahead : List (List ℕ)) (n : ℕ) → (0 < length piece → 0 < n) → size (again (drop n piece) ahead) < size (piece ∷ ahead)
+less-ahead [] ahead n some = rw (drop-nil n) (omega arith)
+less-ahead (byte ∷ piece) ahead n some =
+    let left = drop n (byte ∷ piece) in
+    let taken : 0 < n = some (omega arith) in
+    omega (arith, taken, again-size left ahead, length-drop n (byte ∷ piece), length-append (byte ∷ piece) (joined ahead))
+  where
+    again-size : (left : List ℕ) (ahead : List (List ℕ)) → size (again left ahead) ≤ length left + size ahead + 1
+    again-size [] ahead = omega arith
+    again-size (byte ∷ left) ahead = omega (arith, length-append (byte ∷ left) (joined ahead))
+
+-- What was taken and what is ahead, before an offer that takes n bytes and after it.
+pub offer-front : (taken piece : List ℕ) (ahead : List (List ℕ)) (n : ℕ) → taken ++ joined (piece ∷ ahead) ≡ (taken ++ take n piece) ++ joined (again (drop n piece) ahead)
+offer-front taken piece ahead n =
+    let rest = joined ahead in
+    let split : piece ++ rest ≡ take n piece ++ (drop n piece ++ rest) = ap (λ (l : List ℕ). l ++ rest) (sym (take-append-drop n piece)) ∙ append-assoc (take n piece) (drop n piece) rest in
+    ap (λ (l : List ℕ). taken ++ l) (split ∙ ap (λ (l : List ℕ). take n piece ++ l) (sym (joined-again (drop n piece) ahead)))
+    ∙ sym (append-assoc taken (take n piece) (joined (again (drop n piece) ahead)))
 
 -- The stream is what was taken, and then what is ahead.
 pub run-front : {R : Type 0} {calls : Calls R} {Free : Type 0} {pieces ahead : List (List ℕ)} {taken : List ℕ} {replies : List R} {s : calls .State}
     → Run calls Free pieces ahead taken replies s → joined pieces ≡ taken ++ joined ahead
 run-front (starts first) = refl
-run-front (offers {ahead} {piece} {taken} {n = n} run may feeds asked) =
-    let rest = joined ahead in
-    let split : piece ++ rest ≡ take n piece ++ (drop n piece ++ rest) = ap (λ (l : List ℕ). l ++ rest) (sym (take-append-drop n piece)) ∙ append-assoc (take n piece) (drop n piece) rest in
-    run-front run ∙ ap (λ (l : List ℕ). taken ++ l) (split ∙ ap (λ (l : List ℕ). take n piece ++ l) (sym (joined-again (drop n piece) ahead)))
-    ∙ sym (append-assoc taken (take n piece) (joined (again (drop n piece) ahead)))
+run-front (offers {ahead} {piece} {taken} {n = n} run may feeds asked) = run-front run ∙ offer-front taken piece ahead n
 run-front (asks may run asked) = run-front run
 run-front (recuts {taken = taken} other may run same) = run-front run ∙ ap (λ (l : List ℕ). taken ++ l) (sym same)
 
@@ -43,12 +64,15 @@ pub record Searches {R : Type 0} (judge : Judge R) (calls : Calls R) (unread : c
   pub gives : {s t : calls .State} {n : ℕ} {reply : R} → calls .Gives s n reply t → (over : ℕ) × (search judge (unread s) ≡ found over n reply (unread t))
   pub nothing : {s t : calls .State} → calls .GivesNothing s t → (over : ℕ) × (search judge (unread s) ≡ nothing over (unread t))
 
--- and `feed` of a piece that may be offered, once asked until nothing came, loses nothing, and takes a byte if there is one
-pub record Faithful {R : Type 0} (judge : Judge R) (calls : Calls R) (unread : calls .State → List ℕ) : Type 0 where
+-- and `feed` of a piece that may be offered loses nothing, and takes a byte if there is one, of a state that is ready for it: a fresh one, and one that a
+-- `next` that gave nothing handed back
+pub record Faithful {R : Type 0} (judge : Judge R) (calls : Calls R) (unread : calls .State → List ℕ) (Ready : calls .State → Type 0) : Type 0 where
   pub next : Searches judge calls unread
   pub fresh : {s : calls .State} → calls .Fresh s → unread s ≡ []
-  pub feeds : {s t : calls .State} {piece : List ℕ} {n : ℕ} → judge (unread s) ≡ notYet → calls .Piece piece → calls .Feeds s piece n t → unread t ≡ unread s ++ take n piece
-  pub some : {s t : calls .State} {piece : List ℕ} {n : ℕ} → judge (unread s) ≡ notYet → 0 < length piece → calls .Feeds s piece n t → 0 < n
+  pub first : {s : calls .State} → calls .Fresh s → Ready s
+  pub asked : {s t : calls .State} → calls .GivesNothing s t → Ready t
+  pub feeds : {s t : calls .State} {piece : List ℕ} {n : ℕ} → Ready s → calls .Piece piece → calls .Feeds s piece n t → unread t ≡ unread s ++ take n piece
+  pub some : {s t : calls .State} {piece : List ℕ} {n : ℕ} → Ready s → 0 < length piece → calls .Feeds s piece n t → 0 < n
   -- and never more than is offered
   pub most : {s t : calls .State} {piece : List ℕ} {n : ℕ} → calls .Feeds s piece n t → n ≤ length piece
 
@@ -58,7 +82,7 @@ pub record Comes {R : Type 0} (judge : Judge R) (replies : List R) (rest l : Lis
   pub same-rest : (place : ℕ) → rest ≡ readFrom judge place l .rest
 
 module _ {R : Type 0} (judge : Judge R) (steady : Steady judge) where
-  comes-by : {replies : List R} {rest : List ℕ} (l : List ℕ) (o : ℕ → Reading R) → ((place : ℕ) → readFrom judge place l ≡ o place)
+  pub comes-by : {replies : List R} {rest : List ℕ} (l : List ℕ) (o : ℕ → Reading R) → ((place : ℕ) → readFrom judge place l ≡ o place)
       → ((place : ℕ) → replies ≡ repliesOf (o place .frames)) → ((place : ℕ) → rest ≡ o place .rest) → Comes judge replies rest l
   comes-by l o e replies rest =
       record {
@@ -70,7 +94,7 @@ module _ {R : Type 0} (judge : Judge R) (steady : Steady judge) where
   comes-empty = comes-by [] (λ place. stops []) (λ place. idle judge steady place [] (steady .empty)) (λ place. refl) (λ place. refl)
 
   -- what comes first, and then what comes of the rest with more bytes behind it
-  comes-on : {replies new : List R} {rest last : List ℕ} (taken more : List ℕ) → Comes judge replies rest taken → Comes judge new last (rest ++ more)
+  pub comes-on : {replies new : List R} {rest last : List ℕ} (taken more : List ℕ) → Comes judge replies rest taken → Comes judge new last (rest ++ more)
       → Comes judge (replies ++ new) last (taken ++ more)
   comes-on {rest = rest} taken more a b =
       let first : ℕ → Reading R = λ place. readFrom judge place taken in
@@ -81,17 +105,29 @@ module _ {R : Type 0} (judge : Judge R) (steady : Steady judge) where
       (λ place. (λ i. a .same-replies place i ++ b .same-replies (at place) i) ∙ sym (replies-append (first place .frames) _))
       (λ place. b .same-rest (at place))
 
-module _ {R : Type 0} (judge : Judge R) (steady : Steady judge) (calls : Calls R) (unread : calls .State → List ℕ) (next : Searches judge calls unread) where
+  -- what comes where a search found nothing, or a frame
   searched : (l : List ℕ) (s : Search R) → search judge l ≡ s → (place : ℕ) → readFrom judge place l ≡ readOn judge place s
   searched l s e place = search-reading judge steady place l ∙ ap (readOn judge place) e
 
+  pub comes-none : (l : List ℕ) (over : ℕ) (rest : List ℕ) → search judge l ≡ nothing over rest → Comes judge [] rest l
+  comes-none l over rest e = comes-by l _ (searched l _ e) (λ place. refl) (λ place. refl)
+
+  pub comes-found : {replies : List R} {rest : List ℕ} (l : List ℕ) (over n : ℕ) (reply : R) (after : List ℕ) → search judge l ≡ found over n reply after → Comes judge replies rest after
+      → Comes judge (reply ∷ replies) rest l
+  comes-found l over n reply after e c =
+      comes-by l _ (searched l _ e) (λ place. ap (λ (q : List R). reply ∷ q) (c .same-replies (place + over + n))) (λ place. c .same-rest (place + over + n))
+
+module _ {R : Type 0} (judge : Judge R) (steady : Steady judge) (calls : Calls R) (unread : calls .State → List ℕ) (next : Searches judge calls unread) where
+  pub nothing-comes : {s t : calls .State} → calls .GivesNothing s t → Comes judge [] (unread t) (unread s)
+  nothing-comes {s} {t} none = let f = next .nothing none in comes-none judge steady (unread s) (f .0) (unread t) (f .1)
+
+  pub reply-comes : {s t : calls .State} {n : ℕ} {reply : R} {replies : List R} {rest : List ℕ} → calls .Gives s n reply t → Comes judge replies rest (unread t)
+      → Comes judge (reply ∷ replies) rest (unread s)
+  reply-comes {s} {t} {n} {reply} gave = let f = next .gives gave in comes-found judge steady (unread s) (f .0) n reply (unread t) (f .1)
+
   pub asked-comes : {s u : calls .State} {replies : List R} → Asked calls s replies u → Comes judge replies (unread u) (unread s)
-  asked-comes {s} (ends none) = comes-by judge steady (unread s) _ (searched (unread s) _ (next .nothing none .1)) (λ place. refl) (λ place. refl)
-  asked-comes {s} (gives {n = n} {reply = reply} gave asked) =
-      let c = asked-comes asked in
-      let f = next .gives gave in
-      comes-by judge steady (unread s) _ (searched (unread s) _ (f .1)) (λ place. ap (λ (q : List R). reply ∷ q) (c .same-replies (place + f .0 + n)))
-      (λ place. c .same-rest (place + f .0 + n))
+  asked-comes (ends none) = nothing-comes none
+  asked-comes (gives gave asked) = reply-comes gave (asked-comes asked)
 
   -- Each reply leaves fewer bytes unread.
   pub gives-fewer : {s t : calls .State} {n : ℕ} {reply : R} → calls .Gives s n reply t → length (unread t) < length (unread s)
@@ -105,7 +141,34 @@ module _ {R : Type 0} (judge : Judge R) (steady : Steady judge) (calls : Calls R
   pub asking-ends : ((t : calls .State) → Answers calls t) → (s : calls .State) → AskingEnds calls s
   asking-ends answers s = ends-in (suc (length (unread s))) s answers (omega arith)
 
-module _ {R : Type 0} (judge : Judge R) (steady : Steady judge) (calls : Calls R) (unread : calls .State → List ℕ) (faithful : Faithful judge calls unread) where
+  -- Where `next` gave nothing, the judge can't tell more of what is unread.
+  pub nothing-more : {s t : calls .State} → calls .GivesNothing s t → judge (unread t) ≡ notYet
+  nothing-more {s} {t} none = let f = next .nothing none in nothing-waits judge steady (unread s) (f .0) (unread t) (f .1)
+
+-- In time, from what is taken, what is ahead and the replies: the frame, good by its own n bytes, stands at p of the stream; its own last byte is taken,
+-- and bound - 1 bytes counted from its first are.
+pub given-so-far : {R : Type 0} (judge : Judge R) (steady : Steady judge) (bound : ℕ) → Bounded judge bound → (stream taken ahead : List ℕ) (replies : List R)
+    → stream ≡ taken ++ ahead → replies ≡ repliesOf (readAll judge taken .frames) → (p n : ℕ) (reply : R)
+    → judge (take n (drop p stream)) ≡ good n reply → NoneOver p (readAll judge stream .frames) → p + n ≤ length taken → TakenIn bound p taken
+    → GivenSoFar p n reply (readAll judge stream .frames) replies
+unfolding given-stays
+given-so-far judge steady bound bounded stream taken ahead replies f same p n reply stands clear own enough =
+    let a = given-in-time judge steady bound bounded taken ahead p n reply (rw f at stands) (rw f at clear) own enough in
+    rw f (record { frame = given-stays judge steady taken ahead p n reply a; later = repliesOf (a .after); exactly = same ∙ reply-given a })
+
+module _ {R : Type 0} (judge : Judge R) (steady : Steady judge) (calls : Calls R) (unread : calls .State → List ℕ) (Ready : calls .State → Type 0)
+    (faithful : Faithful judge calls unread Ready) where
+  -- A run is ready for the next piece.
+  asked-ready : {s u : calls .State} {replies : List R} → Asked calls s replies u → Ready u
+  asked-ready (ends none) = faithful .asked none
+  asked-ready (gives gave asked) = asked-ready asked
+
+  pub run-ready : {Free : Type 0} {pieces ahead : List (List ℕ)} {taken : List ℕ} {replies : List R} {s : calls .State} → Run calls Free pieces ahead taken replies s → Ready s
+  run-ready (starts first) = faithful .first first
+  run-ready (offers run may feeds asked) = asked-ready asked
+  run-ready (asks may run asked) = asked-ready asked
+  run-ready (recuts other may run same) = run-ready run
+
   run-comes : {Free : Type 0} {pieces ahead : List (List ℕ)} {taken : List ℕ} {replies : List R} {s : calls .State}
       → Run calls Free pieces ahead taken replies s → Comes judge replies (unread s) taken
   run-comes (starts first) = rw (faithful .fresh first) (comes-empty judge steady)
@@ -114,10 +177,8 @@ module _ {R : Type 0} (judge : Judge R) (steady : Steady judge) (calls : Calls R
       let now = asked-comes judge steady calls unread (faithful .next) asked in
       rw append-nil at (comes-on judge steady taken [] (run-comes run) (rw (← append-nil (unread s)) at now))
   run-comes (offers {piece = piece} {taken = taken} {n = n} run may feeds asked) =
-      let before = run-comes run in
       let now = asked-comes judge steady calls unread (faithful .next) asked in
-      let waits = ap judge (before .same-rest 0) ∙ rest-not-yet judge steady 0 taken in
-      comes-on judge steady taken (take n piece) before (rw (faithful .feeds waits may feeds) at now)
+      comes-on judge steady taken (take n piece) (run-comes run) (rw (faithful .feeds (run-ready run) may feeds) at now)
 
   module _ {Free : Type 0} {pieces ahead : List (List ℕ)} {taken : List ℕ} {replies : List R} {s : calls .State} (run : Run calls Free pieces ahead taken replies s) where
     -- "the replies are those of one left-to-right reading .., in order and no others": of what was taken; and what that reading leaves is unread
@@ -127,24 +188,16 @@ module _ {R : Type 0} (judge : Judge R) (steady : Steady judge) (calls : Calls R
     pub run-unread : unread s ≡ readAll judge taken .rest
     run-unread = run-comes run .same-rest 0
 
-    run-waits : judge (unread s) ≡ notYet
-    run-waits = ap judge run-unread ∙ rest-not-yet judge steady 0 taken
-
-    -- "A good frame overlapped by no earlier frame of that reading is given": the frame, good by its own n bytes, stands at p of the stream; its own last
-    -- byte is taken, and bound - 1 bytes counted from its first are.
+    -- "A good frame overlapped by no earlier frame of that reading is given"
     pub in-time : (bound : ℕ) → Bounded judge bound → (p n : ℕ) (reply : R)
         → judge (take n (drop p (joined pieces))) ≡ good n reply → NoneOver p (readAll judge (joined pieces) .frames)
         → p + n ≤ length taken → TakenIn bound p taken
         → GivenSoFar p n reply (readAll judge (joined pieces) .frames) replies
-    unfolding given-stays
-    in-time bound bounded p n reply stands clear own enough =
-        let f = run-front run in
-        let a = given-in-time judge steady bound bounded taken (joined ahead) p n reply (rw f at stands) (rw f at clear) own enough in
-        rw f (record { frame = given-stays judge steady taken (joined ahead) p n reply a; later = repliesOf (a .after); exactly = run-replies ∙ reply-given a })
+    in-time bound bounded = given-so-far judge steady bound bounded (joined pieces) taken (joined ahead) replies (run-front run) run-replies
 
     -- An offer takes a byte or more.
     pub takes-some : {t : calls .State} {n : ℕ} (piece : List ℕ) → 0 < length piece → calls .Feeds s piece n t → 0 < n
-    takes-some piece some feeds = faithful .some run-waits some feeds
+    takes-some piece some feeds = faithful .some (run-ready run) some feeds
 
 -- A run whose caller does no more than it must is one whose caller may do more.
 pub run-plain : {R : Type 0} {calls : Calls R} {pieces ahead : List (List ℕ)} {taken : List ℕ} {replies : List R} {s : calls .State}
@@ -167,32 +220,29 @@ pub record Able {R : Type 0} (calls : Calls R) : Type 0 where
   pub feeds : (s : calls .State) (piece : List ℕ) → (n : ℕ) × (t : calls .State) × calls .Feeds s piece n t
   pub next : (s : calls .State) → Answers calls s
 
-module _ {R : Type 0} (judge : Judge R) (steady : Steady judge) (calls : Calls R) (unread : calls .State → List ℕ) (faithful : Faithful judge calls unread) (able : Able calls) where
-  -- From any point of a run on: each offer takes a byte or more, so that fewer are ahead.
-  runs-end : (k : ℕ) (ahead : List (List ℕ)) {Free : Type 0} {pieces : List (List ℕ)} {taken : List ℕ} {replies : List R} {s : calls .State}
-      → Run calls Free pieces ahead taken replies s → Nonempty ahead → length (joined ahead) < k → Ends calls ahead s
-  runs-end zero ahead run some h = absurd (omega arith)
-  runs-end (suc k) [] run some h = all-taken
-  runs-end (suc k) (piece ∷ ahead) {s = s} run (a-byte, others) h =
-      offering (able .feeds s piece) (λ n t feeds. asking-ends judge steady calls unread (faithful .next) (able .next) t) (λ n t u new feeds asked.
-      let some = takes-some judge steady calls unread faithful run piece a-byte feeds in
-      let fewer = ap (λ (l : List ℕ). length l) (joined-again (drop n piece) ahead) in
-      runs-end k (again (drop n piece) ahead) (offers run (able .piece a-byte) feeds asked) (nonempty-again (drop n piece) ahead others)
-      (omega (arith, some, a-byte, fewer, length-append (drop n piece) (joined ahead), length-drop n piece, length-append piece (joined ahead))))
+module _ {R : Type 0} (judge : Judge R) (steady : Steady judge) (calls : Calls R) (unread : calls .State → List ℕ) (Ready : calls .State → Type 0)
+    (faithful : Faithful judge calls unread Ready) (able : Able calls) where
+  -- From a state that is ready on: each offer takes a byte or more, or is of an empty piece, so that less is ahead.
+  ends-by : (k : ℕ) (ahead : List (List ℕ)) {s : calls .State} → Ready s → size ahead < k → Ends calls ahead s
+  ends-by zero ahead ready h = absurd (omega arith)
+  ends-by (suc k) [] ready h = all-taken
+  ends-by (suc k) (piece ∷ ahead) {s} ready h =
+      offering (able .feeds s piece) (λ n t feeds. asking-ends judge steady calls unread (faithful .next) (able .next) t)
+      (λ n t u new feeds asked. ends-by k (again (drop n piece) ahead) (asked-ready judge steady calls unread Ready faithful asked)
+      (omega (arith, less-ahead piece ahead n (λ some. faithful .some ready some feeds))))
 
-  pub run-ends : {Free : Type 0} {pieces ahead : List (List ℕ)} {taken : List ℕ} {replies : List R} {s : calls .State}
-      → Run calls Free pieces ahead taken replies s → Nonempty ahead → Ends calls ahead s
-  run-ends {ahead = ahead} run some = runs-end (suc (length (joined ahead))) ahead run some (omega arith)
+  pub ready-ends : {ahead : List (List ℕ)} {s : calls .State} → Ready s → Ends calls ahead s
+  ready-ends {ahead} ready = ends-by (suc (size ahead)) ahead ready (omega arith)
 
   ended : {Free : Type 0} {pieces ahead : List (List ℕ)} {taken : List ℕ} {replies : List R} {s : calls .State}
-      → Run calls Free pieces ahead taken replies s → Nonempty ahead → Ends calls ahead s
+      → Run calls Free pieces ahead taken replies s → EachPiece (calls .Piece) ahead → Ends calls ahead s
       → (gave : List R) × (u : calls .State) × Run calls Free pieces [] (joined pieces) gave u
   ended {Free} {pieces} {taken = taken} {replies = replies} {s = s} run some all-taken =
       (replies, s, subst (λ (l : List ℕ). Run calls Free pieces [] l replies s) (sym (run-front run ∙ append-nil taken)) run)
-  ended run (a-byte, others) (offering {ahead} {piece} (n, t, feeds) ending on) =
+  ended run (may, others) (offering {ahead} {piece} (n, t, feeds) ending on) =
       let asked = asked-of (ending n t feeds) in
-      ended (offers run (able .piece a-byte) feeds (asked .2)) (nonempty-again (drop n piece) ahead others) (on n t (asked .1) (asked .0) feeds (asked .2))
+      ended (offers run may feeds (asked .2)) (each-again {P = calls .Piece} (λ piece some. able .piece some) (drop n piece) ahead others) (on n t (asked .1) (asked .0) feeds (asked .2))
 
-  -- Every cutting into pieces with a byte has a run that takes all of it.
-  pub runs-whole : (pieces : List (List ℕ)) → Nonempty pieces → (replies : List R) × (s : calls .State) × Run calls ⊥ pieces [] (joined pieces) replies s
-  runs-whole pieces some = let first = starts (able .fresh) in ended first some (run-ends first some)
+  -- Every cutting into pieces that may be offered has a run that takes all of it.
+  pub runs-whole : (pieces : List (List ℕ)) → EachPiece (calls .Piece) pieces → (replies : List R) × (s : calls .State) × Run calls ⊥ pieces [] (joined pieces) replies s
+  runs-whole pieces may = ended (starts (able .fresh)) may (ready-ends (faithful .first (able .fresh)))

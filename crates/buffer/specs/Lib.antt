@@ -1,3 +1,4 @@
 pub mod Buffer
 pub mod Clearing
+pub mod Gateway
 pub mod Runs

@@ -27,10 +27,14 @@ abbrev pub again : List ℕ → List (List ℕ) → List (List ℕ)
 again [] ahead = ahead
 again (byte ∷ left) ahead = (byte ∷ left) ∷ ahead
 
+-- P holds of each piece
+abbrev pub EachPiece : (List ℕ → Type 0) → List (List ℕ) → Type 0
+EachPiece P [] = Unit
+EachPiece P (piece ∷ pieces) = P piece × EachPiece P pieces
+
 -- pieces with a byte or more each
 abbrev pub Nonempty : List (List ℕ) → Type 0
-Nonempty [] = Unit
-Nonempty (piece ∷ pieces) = (0 < length piece) × Nonempty pieces
+Nonempty pieces = EachPiece (λ piece. 0 < length piece) pieces
 
 module _ {R : Type 0} (calls : Calls R) where
   -- "ask until it has no reply": the replies, in order
@@ -52,6 +56,21 @@ module _ {R : Type 0} (calls : Calls R) where
     -- and to cut anew what is ahead: to offer what was not taken with bytes that follow it, or a part of it alone
     recuts : {ahead : List (List ℕ)} {taken : List ℕ} {replies : List R} {s : calls .State} (other : List (List ℕ))
         → Free → Run Free pieces ahead taken replies s → joined other ≡ joined ahead → Run Free pieces other taken replies s
+
+  -- Any calls of `feed` and `next`, in any order, over a cutting, `pieces`: a `feed` may come before `next` gave nothing, and may be refused. At each
+  -- point: the pieces still ahead, the first of them perhaps in part; the bytes taken so far; the replies so far; and the decoder then. What a `feed` did
+  -- not take stays ahead. `Free` says whether the caller may cut anew what is ahead, and so put empty pieces anywhere
+  pub data AnyOrder (Free : Type 0) (pieces : List (List ℕ)) : (ahead : List (List ℕ)) (taken : List ℕ) (replies : List R) → calls .State → Type 0 where
+    begins : {s : calls .State} → calls .Fresh s → AnyOrder Free pieces pieces [] [] s
+    feeds : {ahead : List (List ℕ)} {piece taken : List ℕ} {replies : List R} {s t : calls .State} {n : ℕ}
+        → AnyOrder Free pieces (piece ∷ ahead) taken replies s → calls .Feeds s piece n t
+        → AnyOrder Free pieces (again (drop n piece) ahead) (taken ++ take n piece) replies t
+    gives-one : {ahead : List (List ℕ)} {taken : List ℕ} {replies : List R} {s t : calls .State} {n : ℕ} {reply : R}
+        → AnyOrder Free pieces ahead taken replies s → calls .Gives s n reply t → AnyOrder Free pieces ahead taken (replies ++ reply ∷ []) t
+    gives-none : {ahead : List (List ℕ)} {taken : List ℕ} {replies : List R} {s t : calls .State}
+        → AnyOrder Free pieces ahead taken replies s → calls .GivesNothing s t → AnyOrder Free pieces ahead taken replies t
+    cuts-anew : {ahead : List (List ℕ)} {taken : List ℕ} {replies : List R} {s : calls .State} (other : List (List ℕ))
+        → Free → AnyOrder Free pieces ahead taken replies s → joined other ≡ joined ahead → AnyOrder Free pieces other taken replies s
 
   -- what `next` may hand back
   pub data Answers (s : calls .State) : Type 0 where

@@ -87,6 +87,10 @@ tableRows = 24
 abbrev pub capacity : ℕ
 capacity = 512
 
+-- Document 02, W12: "There at most 109 bytes are unread", in a drained state
+abbrev pub drainedMost : ℕ
+drainedMost = 109
+
 -- the numbers of the code, in the order of its `named`
 abbrev pub numbers : List ℕ
 numbers =
@@ -99,6 +103,7 @@ numbers =
     ∷ nameRoom
     ∷ hashRoom
     ∷ capacity
+    ∷ drainedMost
     ∷ tableRows
     ∷ valuesBits ∷ setupBits ∷ statsBits ∷ allValues
     ∷ [])

@@ -1,5 +1,5 @@
 // The numbers of the format, each named once: ids, the bytes and sizes of a frame, the rooms of names, the bits
-// of masks, the decoder's capacity. Ports `CommandId` and the constants of src/command.rs and src/decoder.rs.
+// of masks, what a decoder holds. Ports `CommandId` and the constants of src/command.rs and src/decoder.rs.
 // specs/Format.antt has the same numbers from document 01; the contract of `named` holds the two together.
 ghost use mathlib.Core.Path.{_≡_};
 ghost use Rattle.format.specs.Format.{numbers};
@@ -65,6 +65,9 @@ pub const FW_INFO_COMMIT_HASH_MAX_LEN: usize = 47;
 // The bytes that a decoder has room for.
 pub const CAPACITY: usize = 512;
 
+// The most that a drained decoder has unread: all but the last byte of the longest frame.
+pub const DRAINED_MOST: usize = 109;
+
 // The rows of the longest field table.
 pub const TABLE_ROWS: usize = 24;
 
@@ -82,7 +85,7 @@ pub const MASK_BITS: usize = VALUES_BITS + SETUP_BITS + STATS_BITS;
 pub const ALL_VALUES: u32 = (1 << VALUES_BITS) - 1;
 
 // The numbers above, one after the other: the test that they are those of specs/Format.antt.
-pub fn named() -> [u32; 33]
+pub fn named() -> [u32; 34]
     ensures { λ r. ⌜ r ≡ numbers ⌝ }
 {
     [
@@ -114,6 +117,7 @@ pub fn named() -> [u32; 33]
         FW_VERSION_NAME_MAX_LEN as u32,
         FW_INFO_COMMIT_HASH_MAX_LEN as u32,
         CAPACITY as u32,
+        DRAINED_MOST as u32,
         TABLE_ROWS as u32,
         VALUES_BITS as u32,
         SETUP_BITS as u32,

@@ -3,7 +3,7 @@ use mathlib.Core.Path.{_≡_, refl, sym, ap, _∙_}
 use mathlib.Core.Bool.{cond}
 use lib.Dec.{eqb}
 use lib.ListN.{getD}
-use Rattle.refusals.specs.Refusals.{Refusal, Answer, ok, refused, decodeRefusal, encodeRefusal, consumed}
+use Rattle.refusals.specs.Refusals.{Refusal, Answer, ok, refused, decodeRefusal, encodeRefusal, feedRefusal, consumed}
 use Rattle.refusals.specs.OneAnswer.{ToldApart, OneAnswer}
 use Rattle.refusals.specs.declared.DecodeError.{DecodeError}
 use Rattle.refusals.specs.declared.DecodeError.the-variants.{IncompleteData, InvalidFrame, UnknownPacket, ChecksumMismatch}
@@ -11,6 +11,8 @@ use Rattle.refusals.specs.declared.Consumed.{Consumed}
 use Rattle.refusals.specs.declared.Consumed.the-variants as c
 use Rattle.refusals.specs.declared.EncodeError.{EncodeError}
 use Rattle.refusals.specs.declared.EncodeError.the-variants.{BufferTooSmall, PayloadTooLong}
+use Rattle.refusals.specs.declared.FeedError.{FeedError}
+use Rattle.refusals.specs.declared.FeedError.the-variants.{NotDrained}
 
 -- a map with a way back tells its arguments apart
 pub told-apart : {A B : Type 0} (f : A → B) (back : B → A) → ((a : A) → back (f a) ≡ a) → ToldApart f
@@ -38,6 +40,14 @@ unfolding encodeBack
 encode-back BufferTooSmall = refl
 encode-back PayloadTooLong = refl
 
+-- there is only one
+pub feedBack : Refusal → FeedError
+feedBack r = NotDrained
+
+pub feed-back : (e : FeedError) → feedBack (feedRefusal e) ≡ e
+unfolding feedBack
+feed-back NotDrained = refl
+
 -- an answer made again from its map's value: `got` of a value, `err` of the error with a refusal's number
 unfoldable pub readBack : {A R : Type 0} → (A → R) → (DecodeError → R) → Answer A → R
 readBack got err (ok value) = got value
@@ -60,5 +70,6 @@ one-answer =
     record {
       decode-errors = told-apart decodeRefusal decodeBack decode-back;
       encode-errors = told-apart encodeRefusal encodeBack encode-back;
+      feed-errors = told-apart feedRefusal feedBack feed-back;
       consumes = consumed-unique;
     }

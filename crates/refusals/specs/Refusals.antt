@@ -1,5 +1,5 @@
--- Document 01, "Six refusals": each has a number, and values that are returned with it. Later requests add 7 to 16: a line each here.
---
+-- Document 01, "Six refusals": each has a number, and values that are returned with it. Document 02 adds 7 to 16: a line each here, with the
+-- request that brings it.
 use Prim.Native.Nat.{ℕ}
 use mathlib.Core.List.{List, [], _∷_}
 use Rattle.refusals.specs.declared.DecodeError.{DecodeError}
@@ -8,6 +8,8 @@ use Rattle.refusals.specs.declared.Consumed.{Consumed}
 use Rattle.refusals.specs.declared.Consumed.the-variants as c
 use Rattle.refusals.specs.declared.EncodeError.{EncodeError}
 use Rattle.refusals.specs.declared.EncodeError.the-variants.{BufferTooSmall, PayloadTooLong}
+use Rattle.refusals.specs.declared.FeedError.{FeedError}
+use Rattle.refusals.specs.declared.FeedError.the-variants.{NotDrained}
 
 -- a refusal: document 01's number, and the values returned with it
 pub record Refusal : Type 0 where
@@ -38,6 +40,10 @@ bufferTooSmall = record { number = 5; values = [] }
 abbrev pub payloadTooLong : Refusal
 payloadTooLong = record { number = 6; values = [] }
 
+-- 15 NotDrained (W12): nothing; nothing changed
+abbrev pub notDrained : Refusal
+notDrained = record { number = 15; values = [] }
+
 -- what a call answers: a value, or a refusal
 pub data Answer (A : Type 0) : Type 0 where
   ok : A → Answer A
@@ -59,3 +65,7 @@ consumed (c.Refused e) = refused (decodeRefusal e)
 abbrev pub encodeRefusal : EncodeError → Refusal
 encodeRefusal BufferTooSmall = bufferTooSmall
 encodeRefusal PayloadTooLong = payloadTooLong
+
+-- the refusals of the gateway feed
+abbrev pub feedRefusal : FeedError → Refusal
+feedRefusal NotDrained = notDrained

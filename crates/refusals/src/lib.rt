@@ -1,7 +1,7 @@
 // Why an answer is no. Ports `DecodeError` and `EncodeError` of src/command.rs; document 01, "Six
-// refusals", gives each its number and says what is returned with it.
+// refusals", gives each its number and says what is returned with it. Document 02 adds the rest.
 ghost use mathlib.Core.Path.{_≡_};
-ghost use Rattle.refusals.specs.Refusals.{decodeRefusal, encodeRefusal};
+ghost use Rattle.refusals.specs.Refusals.{decodeRefusal, encodeRefusal, feedRefusal};
 
 // Why a slice is not read.
 pub enum DecodeError {
@@ -21,6 +21,11 @@ pub enum Consumed {
 pub enum EncodeError {
     BufferTooSmall,
     PayloadTooLong,
+}
+
+// Why the gateway feed takes nothing.
+pub enum FeedError {
+    NotDrained,
 }
 
 impl DecodeError {
@@ -48,6 +53,17 @@ impl EncodeError {
         match self {
             EncodeError::BufferTooSmall => 5,
             EncodeError::PayloadTooLong => 6,
+        }
+    }
+}
+
+impl FeedError {
+    // Document 02's number.
+    pub fn number(self) -> u8
+        ensures { λ r. ⌜ r ≡ feedRefusal self .number ⌝ }
+    {
+        match self {
+            FeedError::NotDrained => 15,
         }
     }
 }

@@ -95,6 +95,10 @@ module _ {R : Type 0} (judge : Judge R) (steady : Steady judge) where
   pub nothing-account : (l : List ℕ) (over : ℕ) (rest : List ℕ) → search judge l ≡ nothing over rest → over + length rest ≡ length l
   nothing-account l over rest e = let a = rw e at (search-account l) in omega arith
 
+  -- and of those left the judge says "not yet".
+  pub nothing-waits : (l : List ℕ) (over : ℕ) (rest : List ℕ) → search judge l ≡ nothing over rest → judge rest ≡ notYet
+  nothing-waits l over rest e = let h = rw e at (search-ends l) in ap judge (h .1) ∙ h .0
+
   read-on-further : (place : ℕ) (s : Search R) → readOn judge (place + 1) s ≡ readOn judge place (further 1 s)
   read-on-further place (found over n r after) =
       ap (λ (at : ℕ). frameThen (record { place = at; size = n; reply = r }) (readFrom judge (at + n) after)) (add-assoc place 1 over)
