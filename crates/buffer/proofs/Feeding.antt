@@ -1,7 +1,7 @@
 -- What `feed` does: by cases, and to a buffer that has room.
-use mathlib.Core.Path.{_≡_, refl, ap, _∙_}
+use mathlib.Core.Path.{_≡_, refl, sym, ap, _∙_}
 use mathlib.Core.List.{List, [], _++_}
-use mathlib.Core.Bool.{Bool, true, false, cond}
+use mathlib.Core.Bool.{Bool, true, false, cond, true≢false}
 use Prim.Native.Nat.{ℕ, _+_, _-_, _<_, _≤_}
 use native.Mathlib.Omega.{arith}
 use native.Mathlib.Nat.{le-refl, zero-add}
@@ -63,12 +63,12 @@ emptied-fits buffer fits = by (eqb (buffer .wpos) 512)
     by false = fits
 
 -- A mark that is there after a feed was there before it, and the piece was empty.
-mark-stays : (piece : List ℕ) (mark : Bool) → markFed piece mark ≡ true → (length piece ≡ 0) × (mark ≡ true)
-mark-stays piece mark = by (eqb (length piece) 0) refl
+pub mark-stays : (n : ℕ) (mark : Bool) → markFed n mark ≡ true → (n ≡ 0) × (mark ≡ true)
+mark-stays n mark = by (eqb n 0) refl
   where
-    by : (b : Bool) → eqb (length piece) 0 ≡ b → cond b mark false ≡ true → (length piece ≡ 0) × (mark ≡ true)
+    by : (b : Bool) → eqb n 0 ≡ b → cond b mark false ≡ true → (n ≡ 0) × (mark ≡ true)
     by true e h = (eqb-true _ _ e, h)
-    by false e h = let z : _≡_ {A = ℕ} 0 1 = cc in absurd (omega arith)
+    by false e h = absurd (true≢false (sym h))
 
 copied-fits : (piece : List ℕ) (buffer : Buffer) → Fits buffer → Fits (copied piece (fitting (length piece) buffer) buffer)
 unfolding fitting copied
@@ -80,7 +80,7 @@ copied-fits piece buffer f =
     record {
       low = omega (arith, size, taken, f .low);
       high = omega (arith, h .low, f .high);
-      few = λ e. let m = mark-stays piece (buffer .drained) e in omega (arith, size, taken, h .high, m .0, f .few (m .1));
+      few = λ e. let m = mark-stays (length piece) (buffer .drained) e in omega (arith, size, taken, h .high, m .0, f .few (m .1));
     }
 
 pub feed-fits : (buffer : Buffer) (piece : List ℕ) → Fits buffer → Fits (fedBuffer buffer piece)

@@ -1,19 +1,20 @@
 -- The gateway feed, by cases; and beside the Rust's `feed`, which clears nothing of a drained buffer.
 use mathlib.Core.Path.{_≡_, refl, sym, ap, _∙_}
-use mathlib.Core.Bool.{Bool, true, false, cond}
+use mathlib.Core.Bool.{Bool, true, false, cond, true≢false}
 use mathlib.Core.List.{List, [], _++_, append-nil}
 use mathlib.Core.Logic.{_⊎_, inl, inr, ⊎-elim}
-use Prim.Native.Nat.{ℕ, _-_, _<_, _≤_}
+use Prim.Native.Nat.{ℕ, _+_, _-_, _<_, _≤_}
 use native.Mathlib.Omega.{arith}
 use borrow.Author.Tests.{ltb-false, ne-eqb, eqb-true, eqb-false}
 use lib.Dec.{ltb, eqb}
 use lib.ListN.{length, take}
+use lib.Seq.{take-length}
 use Rattle.refusals.specs.Refusals.{Answer, ok, refused, notDrained}
 use Rattle.refusals.specs.Answers.{placeOr}
 use Rattle.buffer.specs.Buffer.{Buffer, atFront, moved, emptied, fitting, copied, feedCount, fedBuffer, gatewayAnswer, gatewayCount, gatewayBuffer}
 use Rattle.buffer.specs.Gateway.{NeverClears, GatewayFeed}
-use Rattle.buffer.proofs.Figures.{capped}
-use Rattle.buffer.proofs.Feeding.{emptied-not, taken}
+use Rattle.buffer.proofs.Figures.{capped, capped-under}
+use Rattle.buffer.proofs.Feeding.{moved-when, emptied-not, taken}
 
 -- ---- by the tests that a program makes
 
@@ -103,9 +104,7 @@ module _ (buffer : Buffer) (piece : List ℕ) where
       ⊎-elim (λ s. s .same)
       (λ t.
       let off : cond (eqb (length piece) 0) (ready .drained) false ≡ false = simp (ne-eqb (length piece) 0 (λ q. omega (arith, t .some))) in
-      let z : _≡_ {A = Bool} true false = sym m ∙ ap (λ (l : Buffer). l .drained) (t .after) ∙ off in
-      let none : _≡_ {A = ℕ} 0 1 = cc in
-      absurd (omega arith))
+      absurd (true≢false (sym m ∙ ap (λ (l : Buffer). l .drained) (t .after) ∙ off)))
       goes
 
   -- ---- beside `feed`
@@ -132,6 +131,16 @@ module _ (buffer : Buffer) (piece : List ℕ) where
         takes-some = taken buffer piece some (omega arith) .some;
         same-buffer = g .1 ∙ ap (λ (l : Buffer). copied piece (fitting (length piece) l) l) (sym kept);
       }
+
+  -- Where the tail is full, a piece that fits behind the unread bytes is taken whole.
+  pub gateway-whole : buffer .drained ≡ true → buffer .wpos ≡ 512 → 0 < length piece → length (buffer .unread) + length piece ≤ 512
+      → (gatewayCount buffer piece ≡ length piece) × (gatewayBuffer buffer piece .unread ≡ buffer .unread ++ piece)
+  unfolding fitting
+  gateway-whole m end some room =
+      let front = moved-when (length piece) buffer (omega arith) in
+      let all : fits ≡ length piece = ap (λ (l : Buffer). fitting (length piece) l) front ∙ capped-under (512 - length (buffer .unread)) (length piece) (omega arith) in
+      let n = ap (placeOr 0) (gateway-takes (ne-eqb (length piece) 0 (λ q. omega arith)) m .0) ∙ all in
+      (n, gateway-keeps ∙ ap (λ (k : ℕ). buffer .unread ++ take k piece) n ∙ ap (λ (l : List ℕ). buffer .unread ++ l) (take-length piece))
 
 pub gateway-feed : GatewayFeed
 gateway-feed =

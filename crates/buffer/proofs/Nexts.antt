@@ -1,6 +1,6 @@
 -- What one `next` does, by whether it gives a reply.
-use mathlib.Core.Path.{_≡_, refl, ap}
-use mathlib.Core.Bool.{Bool, true, false, not}
+use mathlib.Core.Path.{_≡_, refl, sym, ap}
+use mathlib.Core.Bool.{Bool, true, false, not, true≢false}
 use Prim.Native.Nat.{ℕ, _+_, _≤_}
 use native.Mathlib.Omega.{arith}
 use lib.ListN.{length}
@@ -55,7 +55,7 @@ module _ {R : Type 0} (judge : Judge R) where
     where
       by : (s : Search R) → search judge (buffer .unread) ≡ s → movedOver s + sizeFound s + length (restOf s) ≡ length (buffer .unread) → Fits (bufferAfter s buffer)
       by (found over n r after) e a =
-          record { low = omega (arith, fits .low); high = fits .high; few = λ q. let z : _≡_ {A = ℕ} 0 1 = cc in absurd (omega arith) }
+          record { low = omega (arith, fits .low); high = fits .high; few = λ q. absurd (true≢false (sym q)) }
       by (nothing over rest) e a =
           let told : 110 ≤ length rest → ⊥ = (λ q. bounded .told rest q (nothing-waits judge steady (buffer .unread) over rest e)) in
           record { low = omega (arith, fits .low); high = fits .high; few = λ q. omega arith }

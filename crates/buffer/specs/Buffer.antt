@@ -77,9 +77,9 @@ emptied buffer = cond (eqb (buffer .wpos) capacity) (allCleared buffer) buffer
 unfoldable pub fitting : ℕ → Buffer → ℕ
 fitting n buffer = atMost (capacity - buffer .wpos) n
 
--- the mark after a feed of either sort: a nonempty piece takes it away, an empty one leaves it as it is
-abbrev pub markFed : List ℕ → Bool → Bool
-markFed piece mark = cond (eqb (length piece) 0) mark false
+-- the mark after a piece of n bytes, fed by either feed: a nonempty piece takes it away, an empty one leaves it as it is
+abbrev pub markFed : ℕ → Bool → Bool
+markFed n mark = cond (eqb n 0) mark false
 
 -- "is copied": n bytes of the piece; fed: "bytes copied"
 unfoldable pub copied : List ℕ → ℕ → Buffer → Buffer
@@ -91,7 +91,7 @@ copied piece n buffer =
       handed = buffer .handed;
       passed = buffer .passed;
       cleared = buffer .cleared;
-      drained = markFed piece (buffer .drained);
+      drained = markFed (length piece) (buffer .drained);
     }
 
 -- "and that count returned"

@@ -3,5 +3,7 @@ pub mod Judging
 pub mod Seeking
 pub mod Unique
 pub mod Runs
+pub mod Gateway
+pub mod GatewayRuns
 pub mod DemandThree
 pub mod OldLoss

@@ -1,11 +1,12 @@
 -- What `next` makes of where the search of the unread bytes ended.
 use mathlib.Core.Path.{_≡_, sym, ap, _∙_, subst}
-use mathlib.Core.Bool.{true, false}
+use mathlib.Core.Bool.{true, false, true≢false}
 use Prim.Native.Nat.{ℕ, _+_, _-_, _≤_}
 use native.Mathlib.Omega.{arith}
-use lib.ListN.{length, take, drop}
+use lib.ListN.{length, take, drop, length-drop}
 use lib.Seq.{drop-drop, slice}
 use Rattle.stream.specs.Searching.{Search, sizeFound, search}
+use Rattle.stream.proofs.Search.{nothing-waits}
 use Rattle.stream.proofs.Seeking.{found-within, nothing-within}
 use Rattle.buffer.specs.Buffer.{Buffer, raised, isFound, replyFound, bufferAfter, nextGiven, nextCount, nextReply, nextBuffer}
 use Rattle.names.proofs.Prefix.{drop-take}
@@ -19,7 +20,7 @@ use Rattle.decoder.specs.declared.Sought.the-variants.{Found, Nothing}
 use Rattle.decoder.specs.Judge.{decodeJudge}
 use Rattle.decoder.specs.State.{bufferOf, fieldsBuffer, Sound, BufferIs, NextIs, searchOf}
 use Rattle.decoder.proofs.States.{sound-buffer, holds, unread-length, lent-unread}
-use Rattle.decoder.proofs.Judging.{decode-steady}
+use Rattle.decoder.proofs.Judging.{decode-steady, decode-bounded}
 
 -- ---- where the search ended
 
@@ -64,8 +65,9 @@ module _ (self d : Decoder) (h : BufferIs (bufferOf self) d) (r : Next) where
   module _ (same-buf : r .decoder .buf ≡ d .buf) (same-wpos : r .decoder .wpos ≡ d .wpos) (same-fed : r .decoder .fed ≡ d .fed)
       (same-cleared : r .decoder .cleared ≡ d .cleared) where
     -- the read position n bytes further
-    further-sound : (n : ℕ) → d .rpos + n ≤ d .wpos → r .decoder .rpos ≡ d .rpos + n → Sound (r .decoder)
-    further-sound n fits er = record { low = omega arith; high = omega (arith, h .sound .high); long = ap length same-buf ∙ h .sound .long }
+    further-sound : (n : ℕ) → d .rpos + n ≤ d .wpos → r .decoder .rpos ≡ d .rpos + n → (r .decoder .drained ≡ true → d .wpos - d .rpos ≤ n + 109) → Sound (r .decoder)
+    further-sound n fits er few =
+        record { low = omega arith; high = omega (arith, h .sound .high); long = ap length same-buf ∙ h .sound .long; few = λ q. omega (arith, few q) }
 
     further-fields : (n : ℕ) → d .rpos + n ≤ d .wpos → r .decoder .rpos ≡ d .rpos + n → fieldsBuffer (r .decoder) .unread ≡ drop n (fieldsBuffer d .unread)
     further-fields n fits er =
@@ -73,8 +75,8 @@ module _ (self d : Decoder) (h : BufferIs (bufferOf self) d) (r : Next) where
 
     pub next-found : (over count : ℕ) → Tells d (Found over count) → r .given ≡ true → r .count ≡ count
         → r .reply ≡ replyIn (take (d .wpos - (d .rpos + over)) (drop (d .rpos + over) (d .buf))) → r .decoder .rpos ≡ d .rpos + over + count
-        → r .decoder .handed ≡ raised (d .handed) count → r .decoder .passed ≡ raised (d .passed) over → NextIs self r
-    next-found over count e there n reply er eh ep =
+        → r .decoder .handed ≡ raised (d .handed) count → r .decoder .passed ≡ raised (d .passed) over → r .decoder .drained ≡ false → NextIs self r
+    next-found over count e there n reply er eh ep em =
         let fits : d .rpos + (over + count) ≤ d .wpos = omega (arith, found-room d (h .sound) over count e) in
         let at : r .decoder .rpos ≡ d .rpos + (over + count) = omega arith in
         next-is _ e
@@ -82,17 +84,29 @@ module _ (self d : Decoder) (h : BufferIs (bufferOf self) d) (r : Next) where
           given = there;
           count = n;
           reply = reply ∙ ap replyIn (sym (drop-take (d .rpos + over) (d .wpos) (d .buf)) ∙ sym (drop-drop over (d .rpos) (take (d .wpos) (d .buf))));
-          after = holds _ (r .decoder) (further-sound (over + count) fits at) (further-fields (over + count) fits at) same-wpos same-fed eh ep same-cleared;
+          after =
+              holds _ (r .decoder) (further-sound (over + count) fits at (λ q. absurd (true≢false (sym q ∙ em))))
+              (further-fields (over + count) fits at)
+              same-wpos
+              same-fed
+              eh
+              ep
+              same-cleared
+              em;
         })
 
     pub next-nothing : (over : ℕ) → Tells d (Nothing over) → r .given ≡ false → r .count ≡ 0
-        → r .reply ≡ emptyReply → r .decoder .rpos ≡ d .rpos + over → r .decoder .handed ≡ d .handed → r .decoder .passed ≡ raised (d .passed) over → NextIs self r
-    next-nothing over e none n reply er eh ep =
+        → r .reply ≡ emptyReply → r .decoder .rpos ≡ d .rpos + over → r .decoder .handed ≡ d .handed → r .decoder .passed ≡ raised (d .passed) over
+        → r .decoder .drained ≡ true → NextIs self r
+    next-nothing over e none n reply er eh ep em =
         let fits = nothing-room d (h .sound) over e in
+        let left = drop over (fieldsBuffer d .unread) in
+        let told : 110 ≤ length left → ⊥ = (λ q. decode-bounded .told left q (nothing-waits decodeJudge decode-steady (fieldsBuffer d .unread) over left (sym e))) in
+        let few : d .wpos - d .rpos ≤ over + 109 = omega (arith, length-drop over (fieldsBuffer d .unread), unread-length d (h .sound)) in
         next-is _ e
         (record {
           given = none;
           count = n;
           reply = reply;
-          after = holds _ (r .decoder) (further-sound over fits er) (further-fields over fits er) same-wpos same-fed eh ep same-cleared;
+          after = holds _ (r .decoder) (further-sound over fits er (λ q. few)) (further-fields over fits er) same-wpos same-fed eh ep same-cleared em;
         })

@@ -8,7 +8,7 @@ use Rattle.decoder.specs.State.{fieldsBuffer, BufferIs}
 use Rattle.decoder.specs.OneAnswer.{UnusedApart, OneAnswer}
 use Rattle.decoder.proofs.States.{sound-buffer, held-buffer}
 
-holds-unique : (buffer : Buffer) (d e : Decoder) → BufferIs buffer d → BufferIs buffer e → UnusedApart d e
+pub holds-unique : (buffer : Buffer) (d e : Decoder) → BufferIs buffer d → BufferIs buffer e → UnusedApart d e
 holds-unique buffer d e h k =
     let same : fieldsBuffer d ≡ fieldsBuffer e = sym (sound-buffer d (h .sound)) ∙ h .is ∙ sym (k .is) ∙ sound-buffer e (k .sound) in
     let wpos : d .wpos ≡ e .wpos = ap (λ (l : Buffer). l .wpos) same in
@@ -20,6 +20,7 @@ holds-unique buffer d e h k =
       handed = ap (λ (l : Buffer). l .handed) same;
       passed = ap (λ (l : Buffer). l .passed) same;
       cleared = ap (λ (l : Buffer). l .cleared) same;
+      drained = ap (λ (l : Buffer). l .drained) same;
     }
 
 pub one-answer : OneAnswer
@@ -34,5 +35,5 @@ one-answer =
         holds-unique _ (a .decoder) (b .decoder) (p .after) (q .after),
       );
       unused = λ d e s t u.
-          sound-buffer d s ∙ buffer-same (fieldsBuffer d) (fieldsBuffer e) (u .unread) (u .wpos) (u .fed) (u .handed) (u .passed) (u .cleared) ∙ sym (sound-buffer e t);
+          sound-buffer d s ∙ buffer-same (fieldsBuffer d) (fieldsBuffer e) (u .unread) (u .wpos) (u .fed) (u .handed) (u .passed) (u .cleared) (u .drained) ∙ sym (sound-buffer e t);
     }

@@ -3,3 +3,4 @@ pub mod State
 pub mod Runs
 pub mod OldLoss
 pub mod OneAnswer
+pub mod Gateway

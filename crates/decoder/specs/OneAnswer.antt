@@ -17,6 +17,7 @@ pub record UnusedApart (d e : Decoder) : Type 0 where
   pub handed : d .handed ≡ e .handed
   pub passed : d .passed ≡ e .passed
   pub cleared : d .cleared ≡ e .cleared
+  pub drained : d .drained ≡ e .drained
 
 pub record OneAnswer : Type 0 where
   -- `new`, and every call that hands back a decoder: a buffer is held by one decoder

@@ -1,14 +1,18 @@
 -- Runs of the decoder: each call may return whatever its contract allows. Crate `buffer` defines a run.
 use mathlib.Core.Bool.{Bool, true, false}
 use mathlib.Core.List.{List}
+use mathlib.Core.Path.{_≡_}
+use mathlib.Core.Logic.{_⊎_}
 use Prim.Native.Nat.{ℕ, _<_}
 use lib.ListN.{length}
+use Rattle.refusals.specs.Answers.{placeOr}
 use Rattle.buffer.specs.Buffer.{fresh, atMost, top}
 use Rattle.buffer.specs.Runs as runs
 use Rattle.reply.specs.declared.CommandReply.{CommandReply}
 use Rattle.decoder.specs.declared.Decoder.{Decoder}
 use Rattle.decoder.specs.declared.Figures.{Figures}
-use Rattle.decoder.specs.State.{bufferOf, BufferIs, FeedIs, NextIs}
+use Rattle.decoder.specs.declared.Taken.{Taken}
+use Rattle.decoder.specs.State.{bufferOf, BufferIs, FeedIs, taken, GatewayFeedIs, NextIs}
 
 -- with any feed: the pieces that may be offered, and what of one is taken
 abbrev pub callsBy : (List ℕ → Type 0) → (Decoder → List ℕ → ℕ → Decoder → Type 0) → runs.Calls CommandReply
@@ -49,9 +53,38 @@ Ends = runs.Ends calls
 abbrev pub InUse : (asked : Bool) → Decoder → Type 0
 InUse = runs.InUse calls
 
--- a decoder that any calls make of a fresh one, empty pieces fed too, and what these calls did in all
+-- the gateway feed, and the bytes that it took: "A count beside a refusal is 0"
+abbrev pub GatewayTakes : Decoder → List ℕ → ℕ → Decoder → Type 0
+GatewayTakes d piece n e = (answer : Taken) × (placeOr 0 (taken answer) ≡ n) × GatewayFeedIs d piece (record { answer = answer; decoder = e })
+
+-- any piece may be offered, an empty one too
+abbrev pub gatewayCalls : runs.Calls CommandReply
+gatewayCalls = callsBy (λ piece. Unit) GatewayTakes
+
+-- Any calls of `gateway_feed` and `next`, in any order, from a fresh decoder on: a piece may be offered before `next` gave nothing, and is then refused and
+-- stays ahead; the caller may cut anew what is ahead, and so put an empty piece anywhere
+abbrev pub GatewayRun : (pieces ahead : List (List ℕ)) (taken : List ℕ) (replies : List CommandReply) → Decoder → Type 0
+GatewayRun = runs.AnyOrder gatewayCalls Unit
+
+-- the same, and the caller cuts nothing anew
+abbrev pub PlainGatewayRun : (pieces ahead : List (List ℕ)) (taken : List ℕ) (replies : List CommandReply) → Decoder → Type 0
+PlainGatewayRun = runs.AnyOrder gatewayCalls ⊥
+
+-- offering these pieces to the gateway feed, and asking until nothing comes, comes to an end, whatever the calls return
+abbrev pub GatewayEnds : (ahead : List (List ℕ)) → Decoder → Type 0
+GatewayEnds = runs.Ends gatewayCalls
+
+-- a decoder that any calls of `gateway_feed` and `next` make of a fresh one, and what these calls did in all
+abbrev pub GatewayReached : runs.Totals → Decoder → Type 0
+GatewayReached = runs.Reached gatewayCalls (λ d. bufferOf d .unread)
+
+-- either feed
+abbrev pub EitherTakes : Decoder → List ℕ → ℕ → Decoder → Type 0
+EitherTakes d piece n e = FeedTakes d piece n e ⊎ GatewayTakes d piece n e
+
+-- a decoder that any calls make of a fresh one, of either feed, empty pieces fed too, and what these calls did in all
 abbrev pub Reached : runs.Totals → Decoder → Type 0
-Reached = runs.Reached calls (λ d. bufferOf d .unread)
+Reached = runs.Reached (callsBy (λ piece. Unit) EitherTakes) (λ d. bufferOf d .unread)
 
 -- the figures, by what the calls did in all: each is "64-bit, holding at the top value"
 abbrev pub figuresBy : runs.Totals → (held : ℕ) → Figures

@@ -1,20 +1,24 @@
 -- A decoder's state, and what each call hands back. Document 01, "The stream" and "Port order and change of shape": "a state with its 512-byte
 -- buffer, handed in and handed back by each call". What the calls do to the buffer is defined in crate `buffer`.
-use mathlib.Core.Bool.{cond}
+use mathlib.Core.Bool.{true, cond, _&&_}
 use mathlib.Core.List.{List}
 use mathlib.Core.Path.{_≡_}
-use Prim.Native.Nat.{ℕ, _≤_}
+use Prim.Native.Nat.{ℕ, _-_, _≤_}
 use lib.Dec.{ltb}
 use lib.ListN.{length}
 use lib.Seq.{slice}
-use Rattle.format.specs.Format.{capacity}
+use Rattle.refusals.specs.Refusals.{Answer, ok, refused, feedRefusal}
+use Rattle.format.specs.Format.{capacity, drainedMost}
 use Rattle.stream.specs.Searching.{Search, foundAt, nothingAt}
-use Rattle.buffer.specs.Buffer.{Buffer, fresh, feedCount, fedBuffer, nextGiven, nextCount, nextReply, nextBuffer}
+use Rattle.buffer.specs.Buffer.{Buffer, fresh, feedCount, fedBuffer, gatewayAnswer, gatewayCount, gatewayBuffer, nextGiven, nextCount, nextReply, nextBuffer}
 use Rattle.reply.specs.declared.CommandReply.{CommandReply}
 use Rattle.reply.specs.Reply.{emptyReply}
 use Rattle.reply.specs.Decode.{replyIn}
 use Rattle.decoder.specs.declared.Decoder.{Decoder}
 use Rattle.decoder.specs.declared.Fed.{Fed}
+use Rattle.decoder.specs.declared.Taken.{Taken}
+use Rattle.decoder.specs.declared.Taken.the-variants.{Bytes, Refused}
+use Rattle.decoder.specs.declared.GatewayFed.{GatewayFed}
 use Rattle.decoder.specs.declared.Next.{Next}
 use Rattle.decoder.specs.declared.Figures.{Figures}
 use Rattle.decoder.specs.declared.Sought.{Sought}
@@ -24,17 +28,29 @@ use Rattle.decoder.specs.Judge.{decodeJudge}
 -- the buffer, by the fields: unread are the bytes from the read position to the write position
 abbrev pub fieldsBuffer : Decoder → Buffer
 fieldsBuffer d =
-    record { unread = slice (d .rpos) (d .wpos) (d .buf); wpos = d .wpos; fed = d .fed; handed = d .handed; passed = d .passed; cleared = d .cleared }
+    record {
+      unread = slice (d .rpos) (d .wpos) (d .buf);
+      wpos = d .wpos;
+      fed = d .fed;
+      handed = d .handed;
+      passed = d .passed;
+      cleared = d .cleared;
+      drained = d .drained;
+    }
 
--- "A state no calls can make, its read position past its write position or that one past 512, is taken as a fresh one"
+-- "A state no calls can make, its read position past its write position or that one past 512, is taken as a fresh one". Document 02, W12: "A state marked
+-- drained with over 109 bytes unread joins those taken as fresh"
 unfoldable pub bufferOf : Decoder → Buffer
-bufferOf d = cond (ltb capacity (d .wpos)) fresh (cond (ltb (d .wpos) (d .rpos)) fresh (fieldsBuffer d))
+bufferOf d =
+    cond (ltb capacity (d .wpos)) fresh
+    (cond (ltb (d .wpos) (d .rpos)) fresh (cond (d .drained && ltb drainedMost (d .wpos - d .rpos)) fresh (fieldsBuffer d)))
 
 -- a state that is none of those
 pub record Sound (d : Decoder) : Type 0 where
   pub low : d .rpos ≤ d .wpos
   pub high : d .wpos ≤ capacity
   pub long : length (d .buf) ≡ capacity
+  pub few : d .drained ≡ true → d .wpos - d .rpos ≤ drainedMost
 
 -- such a state, with the buffer that it holds
 pub record BufferIs (buffer : Buffer) (d : Decoder) : Type 0 where
@@ -45,6 +61,19 @@ pub record BufferIs (buffer : Buffer) (d : Decoder) : Type 0 where
 pub record FeedIs (self : Decoder) (piece : List ℕ) (r : Fed) : Type 0 where
   pub count : r .count ≡ feedCount (bufferOf self) piece
   pub after : BufferIs (fedBuffer (bufferOf self) piece) (r .decoder)
+
+-- the bytes that the gateway feed took, or the refusal
+abbrev pub taken : Taken → Answer ℕ
+taken (Bytes count) = ok count
+taken (Refused e) = refused (feedRefusal e)
+
+-- what `gateway_feed` hands back
+pub record GatewayFeedIs (self : Decoder) (piece : List ℕ) (r : GatewayFed) : Type 0 where
+  pub answer : taken (r .answer) ≡ gatewayAnswer (bufferOf self) piece
+  pub after : BufferIs (gatewayBuffer (bufferOf self) piece) (r .decoder)
+  -- "changes nothing", "nothing changed": where no byte is taken, no unused byte is another either. A state that no calls can make is taken as a fresh
+  -- one, and comes back as such
+  pub unchanged : Sound self → gatewayCount (bufferOf self) piece ≡ 0 → r .decoder ≡ self
 
 -- what `next` hands back
 pub record NextIs (self : Decoder) (r : Next) : Type 0 where

@@ -1,20 +1,23 @@
 // The stream: bytes are fed in pieces, and the frames among them come out as replies. Ports
 // src/decoder.rs at its default capacity of 512 bytes; document 01, "The stream". The state goes in by
-// value and comes back beside what the call answers. The line figures are added.
+// value and comes back beside what the call answers. The line figures are added, and a feed for the
+// gateway that never clears (document 02, W12).
 ghost use mathlib.Core.Path.{_≡_};
 ghost use Prim.Native.Nat.{_+_, _≤_};
 ghost use lib.ListN.{length, drop};
 ghost use lib.Seq.{paste};
 ghost use Rattle.format.specs.Format.{capacity};
 ghost use Rattle.stream.specs.Searching.{search};
-ghost use Rattle.buffer.specs.Buffer.{fresh, atMost, raised, moved, emptied, fitting, copied};
+ghost use Rattle.buffer.specs.Buffer.{fresh, atMost, raised, moved, emptied, fitting, markFed, copied};
 ghost use Rattle.decoder.specs.Judge.{decodeJudge};
-ghost use Rattle.decoder.specs.State.{bufferOf, Sound, BufferIs, FeedIs, NextIs, heldOf, figuresOf, searchOf};
+ghost use Rattle.decoder.specs.State.{bufferOf, Sound, BufferIs, FeedIs, GatewayFeedIs, NextIs, heldOf, figuresOf, searchOf};
 use refusals::Consumed;
 use refusals::DecodeError;
+use refusals::FeedError;
 use reply::CommandReply;
 
-// The unread bytes are buf[rpos..wpos]; the figures count since `new`.
+// The unread bytes are buf[rpos..wpos]; the figures count since `new`. `drained`: the last `next` gave
+// nothing, and no nonempty piece was fed since; or the decoder is fresh.
 pub struct Decoder {
     pub buf: [u8; format::CAPACITY],
     pub rpos: usize,
@@ -23,11 +26,24 @@ pub struct Decoder {
     pub handed: u64,
     pub passed: u64,
     pub cleared: u64,
+    pub drained: bool,
 }
 
 // The answer of `feed`: the bytes taken.
 pub struct Fed {
     pub count: usize,
+    pub decoder: Decoder,
+}
+
+// How many bytes of a piece the gateway feed took, or why it took none.
+pub enum Taken {
+    Bytes(usize),
+    Refused(FeedError),
+}
+
+// The answer of `gateway_feed`.
+pub struct GatewayFed {
+    pub answer: Taken,
     pub decoder: Decoder,
 }
 
@@ -72,6 +88,13 @@ fn at_most(room: usize, n: usize) -> usize
     ensures { λ r. ⌜ r ≡ atMost room n ⌝ }
 {
     if room < n { room } else { n }
+}
+
+// The mark after a piece of so many bytes: an empty one leaves it as it is.
+fn mark_fed(drained: bool, offered: usize) -> bool
+    ensures { λ r. ⌜ r ≡ markFed offered drained ⌝ }
+{
+    if offered == 0 { drained } else { false }
 }
 
 // Moves `n` bytes from `from` to the front.
@@ -132,18 +155,25 @@ impl Decoder {
             handed: 0,
             passed: 0,
             cleared: 0,
+            drained: true,
         }
     }
 
     // A state that no calls can make is taken as a fresh one.
     fn settled(self) -> Decoder
         ensures { λ r. ⌜ BufferIs (bufferOf self) r ⌝ }
+        ensures { λ r. ⌜ (Sound self → r ≡ self) ⌝ }
     {
         if format::CAPACITY < self.wpos {
             return Decoder::new();
         }
         if self.wpos < self.rpos {
             return Decoder::new();
+        }
+        if self.drained {
+            if format::DRAINED_MOST < self.wpos - self.rpos {
+                return Decoder::new();
+            }
         }
         self
     }
@@ -191,21 +221,51 @@ impl Decoder {
         let taken = at_most(format::CAPACITY - wpos, offered);
         copy_in(&mut self.buf, wpos, piece, taken);
         let fed = raise(self.fed, taken);
+        let drained = mark_fed(self.drained, offered);
         self.fed = fed;
         self.wpos = wpos + taken;
+        self.drained = drained;
         Fed {
             count: taken,
             decoder: self,
         }
     }
 
-    // Takes as much of the piece as fits. What is not taken is to be fed again. Clears what is unread when
-    // 512 bytes lie unread, and on an empty piece when the tail is full: never feed an empty piece. The figure
-    // `cleared` counts what was lost so.
+    // The Rust's `feed`. Takes as much of the piece as fits. What is not taken is to be fed again. Clears what
+    // is unread when 512 bytes lie unread, and on an empty piece when the tail is full: never feed an empty
+    // piece. The figure `cleared` counts what was lost so. `gateway_feed` loses nothing.
     pub fn feed(self, piece: &[u8]) -> Fed
         ensures { λ r. ⌜ FeedIs self (now (piece .entry)) r ⌝ }
     {
         self.settled().moved(piece.len()).emptied().copied(piece)
+    }
+
+    // The gateway's feed: nothing that was fed is ever lost. Takes as much of the piece as fits, a byte or more.
+    // What is not taken is to be fed again. An empty piece does nothing. A piece with bytes is refused, and
+    // nothing changes, unless the decoder is drained: ask `next` until it gives nothing. There at most 109
+    // bytes are unread, so that after moving them there is room, and nothing to clear.
+    pub fn gateway_feed(self, piece: &[u8]) -> GatewayFed
+        ensures { λ r. ⌜ GatewayFeedIs self (now (piece .entry)) r ⌝ }
+    {
+        let decoder = self.settled();
+        if piece.len() == 0 {
+            return GatewayFed {
+                answer: Taken::Bytes(0),
+                decoder,
+            };
+        }
+        if !decoder.drained {
+            return GatewayFed {
+                answer: Taken::Refused(FeedError::NotDrained),
+                decoder,
+            };
+        }
+        let fed = decoder.moved(piece.len()).copied(piece);
+        let after = fed.decoder;
+        GatewayFed {
+            answer: Taken::Bytes(fed.count),
+            decoder: after,
+        }
     }
 
     // The next reply among the unread bytes, if a whole frame is there.
@@ -225,6 +285,7 @@ impl Decoder {
                 decoder.handed = handed;
                 decoder.passed = passed;
                 decoder.rpos = start + count;
+                decoder.drained = false;
                 Next {
                     given: true,
                     count,
@@ -237,6 +298,7 @@ impl Decoder {
                 let passed = raise(decoder.passed, over);
                 decoder.passed = passed;
                 decoder.rpos = rpos + over;
+                decoder.drained = true;
                 Next {
                     given: false,
                     count: 0,

@@ -5,6 +5,19 @@ use crate::{Block, Random, answer_to, commands, numbers, replies, streams, unpac
 use std::io::Write;
 use std::process::{Command, Stdio};
 
+/// What the codes of a sequence of calls mean. One that is not known means what 5 means.
+const CODES: [&str; 9] = [
+    "next",
+    "next until nothing comes",
+    "feed",
+    "feed, next until nothing comes",
+    "drop",
+    "offer again",
+    "gateway feed",
+    "gateway feed, next until nothing comes",
+    "look at the mark",
+];
+
 /// What the program prints for these cases.
 fn answered(program: &[String], cases: &[u8]) -> String {
     let mut command = Command::new(&program[0]);
@@ -59,7 +72,7 @@ fn show(program: &[String], block: &Block, k: usize) {
         stream = all[..k].iter().rev().find(|(l, _)| *l == b'L').unwrap().1;
         println!("its stream, {} bytes: {}", stream.len(), decimal(stream));
         for (code, size, times) in streams::calls(case) {
-            let what = ["next", "next until nothing comes", "feed", "feed, next until nothing comes", "drop", "offer again"][code.min(5) as usize];
+            let what = CODES.get(code as usize).unwrap_or(&CODES[5]);
             println!("  {what}, size {size}, {times} times");
         }
         asked.extend(framed(b'L', stream));
@@ -133,11 +146,13 @@ pub fn run(args: &[String]) {
     let seed: u64 = number(seed, "the seed");
     let mut random = Random(seed ^ 0x9E37_79B9_7F4A_7C15);
     println!("seed {seed}");
-    let sorts: [(&str, &str, usize, fn(&mut Block, &mut Random, usize)); 4] = [
+    let sorts: [(&str, &str, usize, fn(&mut Block, &mut Random, usize)); 5] = [
         ("reads, writes, names, masks", read, 50_000, reads),
         ("decode", decodes, 100_000, replies::some),
         ("encode", encodes, 50_000, commands::some),
         ("call sequences", sequences, 500, streams::some),
+        // the last, so that the sorts before it draw what they drew without it
+        ("gateway sequences", sequences, 500, streams::gateway_some),
     ];
     let mut all = 0;
     for (name, wanted, most, make) in sorts {

@@ -2,7 +2,8 @@
 //!
 //!     answers FOLDER BLOCK..     writes FOLDER/stdin (the cases) and FOLDER/stdout (the Rust's answers)
 //!
-//!     answers compare SEED DECODES ENCODES SEQUENCES READS PROGRAM..     fresh random cases, asked of the Rust and of our PROGRAM
+//!     answers compare SEED DECODES ENCODES SEQUENCES READS PROGRAM..     fresh random cases, asked of the Rust and of our PROGRAM; so many
+//!                                                                         SEQUENCES twice, without the gateway feed and with it
 //!     answers traffic BYTES FILE [SEED]                                   so many bytes of frames and noise
 //!     answers line                                                        the Rust's decoder in the place of `vescline`: prints the same
 //!     answers line bare                                                   the same without the figures, for `make speed`
@@ -21,6 +22,7 @@ mod commands;
 mod compare;
 mod decoder;
 mod figures;
+mod gateway;
 mod line;
 mod numbers;
 mod replies;
@@ -149,7 +151,7 @@ fn main() {
         _ => {}
     }
     let (Some(folder), true) = (args.get(1), args.len() > 2) else {
-        eprintln!("usage: answers FOLDER BLOCK..   the blocks: numbers unpackers commands replies streams faults");
+        eprintln!("usage: answers FOLDER BLOCK..   the blocks: numbers unpackers commands replies streams gateway faults");
         std::process::exit(2);
     };
     let mut cases = vec![];
@@ -161,6 +163,7 @@ fn main() {
             "commands" => commands::block(),
             "replies" => replies::block(),
             "streams" => streams::block(),
+            "gateway" => streams::gateway_block(),
             "faults" => faults(),
             _ => {
                 eprintln!("answers: no block {block}");

@@ -25,23 +25,26 @@ copy-in-requires c κs =
 raise-requires : tie.Need-raise-requires
 raise-requires c κs = search needs
 
+mark-fed-requires : tie.Need-mark-fed-requires
+mark-fed-requires c κs = search needs
+
 add-self : tie.Need-add-self
 add-self c =
-    let args = c .before .before .before .before .before .args in
+    let args = c .before .before .before .before .before .before .args in
     let most = capped (512 - args .t1 .wpos) (length (args .piece .now)) in
-    let count = c .before .before .before .at-most .ensures in
+    let count = c .before .before .before .before .at-most .ensures in
     omega arith
 
 returns : tie.Need-returns
 returns c =
-    let start = c .before .before .before .before .before in
-    let count = c .before .before .before .at-most in (
+    let start = c .before .before .before .before .before .before in
+    let count = c .before .before .before .before .at-most in (
       count .ensures ∙ fitting-buffer (start .args .t1) _ (start .pre),
-      copied-holds (start .args .t1) _ (start .pre) (start .args .piece .now) (count .result) (count .ensures) (c .before .copy-in .ensures) refl refl
-          (c .raise .ensures) refl refl refl,
+      copied-holds (start .args .t1) _ (start .pre) (start .args .piece .now) (count .result) (count .ensures) (c .before .before .copy-in .ensures) refl refl
+          (c .before .raise .ensures) refl refl refl (c .mark-fed .ensures),
     )
 
 pub copied-spec : {M : Type 1} → statement M
 copied-spec =
     tie.close
-    (tie.spec sub-at-most at-most-requires copy-in-requires raise-requires add-self returns)
+    (tie.spec sub-at-most at-most-requires copy-in-requires raise-requires mark-fed-requires add-self returns)

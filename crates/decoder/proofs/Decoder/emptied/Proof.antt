@@ -14,7 +14,7 @@ raise-requires c κs = search needs
 returns : tie.Need-returns
 returns c =
     let start = c .before .before in
-    emptied-holds (start .args .self) _ (start .pre) (c .before .if1 .taken) refl refl refl refl refl refl (c .raise .ensures)
+    emptied-holds (start .args .self) _ (start .pre) (c .before .if1 .taken) refl refl refl refl refl refl (c .raise .ensures) refl
 
 returns-2 : tie.Need-returns-2
 returns-2 c = not-emptied-holds (c .before .args .self) (c .before .pre) (c .if1 .left)

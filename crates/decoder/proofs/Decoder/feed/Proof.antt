@@ -25,7 +25,7 @@ returns c =
     let args = c .before .before .before .before .before .args in
     let piece = args .piece .now in
     let buffer : bufferOf (c .before .emptied .result) ≡ emptied (moved (length piece) (bufferOf (args .self))) =
-    c .before .emptied .ensures .is ∙ ap emptied (c .before .before .moved .ensures .is ∙ ap (moved (length piece)) (c .before .before .before .settled .ensures .is)) in
+    c .before .emptied .ensures .is ∙ ap emptied (c .before .before .moved .ensures .is ∙ ap (moved (length piece)) (c .before .before .before .settled .ensures .0 .is)) in
     let count = c .copied .ensures .0 ∙ ap (fitting (length piece)) buffer in
     record {
       count = count;

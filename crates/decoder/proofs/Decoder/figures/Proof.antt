@@ -14,8 +14,8 @@ sub-unread c = search needs
 returns : tie.Need-returns
 returns c =
     let settled = c .before .settled in
-    let held = held-buffer (settled .result) _ (settled .ensures) in
-    let buffer = sym (sound-buffer (settled .result) (settled .ensures .sound)) ∙ settled .ensures .is in
+    let held = held-buffer (settled .result) _ (settled .ensures .0) in
+    let buffer = sym (sound-buffer (settled .result) (settled .ensures .0 .sound)) ∙ settled .ensures .0 .is in
     λ i. record { fed = buffer i .fed; handed = buffer i .handed; passed = buffer i .passed; cleared = buffer i .cleared; held = held i }
 
 pub figures-spec : {M : Type 1} → statement M

@@ -11,7 +11,7 @@ sub-unread : tie.Need-sub-unread
 sub-unread c = search needs
 
 returns : tie.Need-returns
-returns c = held-buffer (c .before .settled .result) _ (c .before .settled .ensures)
+returns c = held-buffer (c .before .settled .result) _ (c .before .settled .ensures .0)
 
 pub held-spec : {M : Type 1} → statement M
 held-spec = tie.close (tie.spec settled-requires sub-unread returns)

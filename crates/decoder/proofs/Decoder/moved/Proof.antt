@@ -17,7 +17,7 @@ move-to-front-requires c κs = search needs
 returns : tie.Need-returns
 returns c =
     let start = c .before .before .before in
-    moved-holds (start .args .t1) _ (start .pre) (start .args .n) (c .before .before .if1 .taken) (c .move-to-front .ensures) refl refl refl refl refl refl
+    moved-holds (start .args .t1) _ (start .pre) (start .args .n) (c .before .before .if1 .taken) (c .move-to-front .ensures) refl refl refl refl refl refl refl
 
 returns-2 : tie.Need-returns-2
 returns-2 c = unmoved-holds (c .before .args .t1) _ (c .before .pre) (c .if1 .left)

@@ -16,7 +16,7 @@ within c =
     let at = c .before .over .given in
     let sought = c .before .before .before in
     let settled = sought .before .before .before .before .settled in
-    (found-room (settled .result) (settled .ensures .sound) (at .0 .0) (at .0 .1 .0) (told (settled .result) _ _ (at .1) (sought .seek .ensures)), settled .ensures .sound .high)
+    (found-room (settled .result) (settled .ensures .0 .sound) (at .0 .0) (at .0 .1 .0) (told (settled .result) _ _ (at .1) (sought .seek .ensures)), settled .ensures .0 .sound .high)
 
 settled-requires : tie.Need-settled-requires
 settled-requires c κs = search needs
@@ -74,7 +74,7 @@ add-decoder-2 c =
     let at = c .before .before .before .over2 .given in
     let sought = c .before .before .before .before .before in
     let settled = sought .before .before .before .before .settled in
-    omega (arith, nothing-room (settled .result) (settled .ensures .sound) (at .0 .0) (told (settled .result) _ _ (at .1) (sought .seek .ensures)))
+    omega (arith, nothing-room (settled .result) (settled .ensures .0 .sound) (at .0 .0) (told (settled .result) _ _ (at .1) (sought .seek .ensures)))
 
 returns : tie.Need-returns
 returns c =
@@ -82,16 +82,16 @@ returns c =
     let at = found .over .given in
     let sought = found .before .before in
     let settled = sought .before .before .before .before .settled in
-    next-found _ (settled .result) (settled .ensures) _ refl refl refl refl (at .0 .0) (at .0 .1 .0) (told (settled .result) _ _ (at .1) (sought .seek .ensures)) refl refl
-    (c .before .before .reply-in .ensures) refl (c .before .raise .ensures) (c .raise2 .ensures)
+    next-found _ (settled .result) (settled .ensures .0) _ refl refl refl refl (at .0 .0) (at .0 .1 .0) (told (settled .result) _ _ (at .1) (sought .seek .ensures)) refl refl
+    (c .before .before .reply-in .ensures) refl (c .before .raise .ensures) (c .raise2 .ensures) refl
 
 returns-2 : tie.Need-returns-2
 returns-2 c =
     let at = c .before .before .before .over2 .given in
     let sought = c .before .before .before .before .before in
     let settled = sought .before .before .before .before .settled in
-    next-nothing _ (settled .result) (settled .ensures) _ refl refl refl refl (at .0 .0) (told (settled .result) _ _ (at .1) (sought .seek .ensures)) refl refl
-    (c .before .empty .ensures) refl refl (c .raise3 .ensures)
+    next-nothing _ (settled .result) (settled .ensures .0) _ refl refl refl refl (at .0 .0) (told (settled .result) _ _ (at .1) (sought .seek .ensures)) refl refl
+    (c .before .empty .ensures) refl refl (c .raise3 .ensures) refl
 
 pub next-spec : {M : Type 1} → statement M
 next-spec =
