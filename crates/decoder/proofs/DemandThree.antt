@@ -1,6 +1,6 @@
 -- Demand 3 and the line figures, of every run of the decoder. The words are in `vesc/specs/Demands.antt`; crate `buffer` shows the same over any
 -- decoder that loses nothing. Here it is said of whole `CommandReply` values, with document 01's 110 bytes.
-use mathlib.Core.Path.{_≡_, sym, ap, _∙_}
+use mathlib.Core.Path.{_≡_, refl, sym, ap, _∙_}
 use mathlib.Core.List.{List, [], _∷_, append-nil}
 use mathlib.Core.Bool.{Bool, true}
 use mathlib.Core.Logic.{inl, inr}
@@ -21,14 +21,16 @@ use Rattle.buffer.proofs.Use as any-use
 use Rattle.reply.specs.declared.CommandReply.{CommandReply}
 use Rattle.decoder.specs.declared.Decoder.{Decoder}
 use Rattle.decoder.specs.declared.Fed.{Fed}
+use Rattle.decoder.specs.declared.GatewayFed.{GatewayFed}
 use Rattle.decoder.specs.declared.Figures.{Figures}
 use Rattle.decoder.specs.Judge.{decodeJudge}
-use Rattle.decoder.specs.State.{bufferOf, heldOf, figuresOf, FeedIs}
+use Rattle.decoder.specs.State.{bufferOf, heldOf, figuresOf, FeedIs, takenAnswer, GatewayFeedIs}
 use Rattle.decoder.specs.Runs.{calls, Run, PlainRun, Ends, InUse, gatewayCalls, GatewayRun, PlainGatewayRun, GatewayEnds, GatewayReached, Reached, figuresBy}
 use Rattle.decoder.specs.Gateway.{GatewayLaws}
 use Rattle.decoder.proofs.Judging.{decode-steady, decode-bounded}
 use Rattle.decoder.proofs.Runs.{unread, Waits, faithful, able, telling, fits, figures-told, reached-either, reached-sound}
 use Rattle.decoder.proofs.GatewayRuns.{marked, Drained, gateway-faithful, gateway-keeping, gateway-able, any-mark, reached-cleared}
+use Rattle.decoder.proofs.States.{marked-buffer}
 use Rattle.decoder.proofs.Unique.{holds-unique}
 
 module _ {pieces ahead : List (List ℕ)} {taken : List ℕ} {replies : List CommandReply} {d : Decoder} (run : Run pieces ahead taken replies d) where
@@ -141,6 +143,14 @@ module _ {totals : Totals} {d : Decoder} (reached : GatewayReached totals d) whe
 
   pub gateway-balance : (figures : Figures) → figures ≡ figuresOf (bufferOf d) → figures .fed < top → figures .fed ≡ figures .handed + figures .passed + figures .held
   gateway-balance figures is below = omega (arith, balance gateway-either figures is below, gateway-none-cleared figures is)
+
+-- A drained decoder takes a byte or more.
+pub gateway-takes-some : {totals : Totals} {d : Decoder} → Reached totals d → d .drained ≡ true → (piece : List ℕ) (r : GatewayFed) → 0 < length piece → GatewayFeedIs d piece r
+    → (n : ℕ) × (takenAnswer (r .answer) ≡ ok n) × (0 < n)
+gateway-takes-some {d = d} reached drained piece r some is =
+    let m = sym (marked-buffer d _ (record { is = refl; sound = reached-sound reached })) ∙ drained in
+    let never = never-clears (bufferOf d) piece m (fits d .few m) some in
+    (_, is .answer ∙ never .same-count, never .takes-some)
 
 -- ---- the gateway feed itself
 

@@ -14,13 +14,13 @@ use Rattle.buffer.proofs.Gateway.{gateway-takes, never-clears}
 use Rattle.decoder.specs.declared.Decoder.{Decoder}
 use Rattle.decoder.specs.declared.Taken.{Taken}
 use Rattle.decoder.specs.declared.Taken.the-variants.{Bytes}
-use Rattle.decoder.specs.State.{bufferOf, Sound, BufferIs, taken, GatewayFeedIs}
+use Rattle.decoder.specs.State.{bufferOf, Sound, BufferIs, takenAnswer, GatewayFeedIs}
 use Rattle.decoder.proofs.Runs.{fits}
 
 module _ (self : Decoder) (piece : List ℕ) where
   -- Nothing is taken: the state comes back.
   pub gateway-stays : (answer : Taken) (d : Decoder) → BufferIs (bufferOf self) d → (Sound self → d ≡ self)
-      → (gatewayAnswer (bufferOf self) piece ≡ taken answer) × (gatewayBuffer (bufferOf self) piece ≡ bufferOf self)
+      → (gatewayAnswer (bufferOf self) piece ≡ takenAnswer answer) × (gatewayBuffer (bufferOf self) piece ≡ bufferOf self)
       → GatewayFeedIs self piece (record { answer = answer; decoder = d })
   gateway-stays answer d h same (a, stays) =
       record { answer = sym a; after = record { is = h .is ∙ sym stays; sound = h .sound }; unchanged = λ s none. same s }

@@ -21,7 +21,7 @@ use Rattle.decoder.specs.declared.Decoder.{Decoder}
 use Rattle.decoder.specs.declared.Taken.{Taken}
 use Rattle.decoder.specs.declared.Taken.the-variants.{Bytes, Refused}
 use Rattle.decoder.specs.Judge.{decodeJudge}
-use Rattle.decoder.specs.State.{bufferOf, Sound, BufferIs, taken, GatewayFeedIs}
+use Rattle.decoder.specs.State.{bufferOf, Sound, BufferIs, takenAnswer, GatewayFeedIs}
 use Rattle.decoder.specs.Runs.{GatewayTakes, gatewayCalls, GatewayReached}
 use Rattle.decoder.proofs.States.{marked-buffer}
 use Rattle.decoder.proofs.Gateway.{gateway-stays, gateway-copied}
@@ -106,7 +106,7 @@ gateway-answers d piece = by (eqb (length piece) 0) refl (marked d) refl
     answered : (answer : Taken) (e : Decoder) → GatewayFeedIs d piece (record { answer = answer; decoder = e }) → (e : Decoder) × GatewayTakes d piece (gatewayCount (bufferOf d) piece) e
     answered answer e is = (e, (answer, ap (placeOr 0) (is .answer), is))
 
-    stays : (answer : Taken) → (gatewayAnswer (bufferOf d) piece ≡ taken answer) × (gatewayBuffer (bufferOf d) piece ≡ bufferOf d)
+    stays : (answer : Taken) → (gatewayAnswer (bufferOf d) piece ≡ takenAnswer answer) × (gatewayBuffer (bufferOf d) piece ≡ bufferOf d)
         → (e : Decoder) × GatewayTakes d piece (gatewayCount (bufferOf d) piece) e
     stays answer g = let k = kept d in answered answer (k .after) (gateway-stays d piece answer (k .after) (k .is) (k .same) g)
 

@@ -10,7 +10,7 @@ use Rattle.buffer.specs.Runs.{Totals}
 use Rattle.decoder.specs.declared.Decoder.{Decoder}
 use Rattle.decoder.specs.declared.Fed.{Fed}
 use Rattle.decoder.specs.declared.GatewayFed.{GatewayFed}
-use Rattle.decoder.specs.State.{bufferOf, FeedIs, taken, GatewayFeedIs}
+use Rattle.decoder.specs.State.{bufferOf, FeedIs, takenAnswer, GatewayFeedIs}
 use Rattle.decoder.specs.OneAnswer.{UnusedApart}
 use Rattle.decoder.specs.Runs.{Reached}
 
@@ -21,4 +21,4 @@ pub record GatewayLaws : Type 0 where
   pub never-clears : (d : Decoder) (piece : List ℕ) → bufferOf d .drained ≡ true → 0 < length piece → NeverClears (bufferOf d) piece
   -- For a nonempty piece and a drained decoder both feeds return the same count and the same state
   pub same : (d : Decoder) (piece : List ℕ) (g : GatewayFed) (f : Fed) → GatewayFeedIs d piece g → FeedIs d piece f → bufferOf d .drained ≡ true → 0 < length piece
-      → (taken (g .answer) ≡ ok (f .count)) × UnusedApart (g .decoder) (f .decoder)
+      → (takenAnswer (g .answer) ≡ ok (f .count)) × UnusedApart (g .decoder) (f .decoder)

@@ -2,11 +2,13 @@
 use mathlib.Core.Path.{_≡_}
 use mathlib.Core.List.{List}
 use Prim.Native.Nat.{ℕ}
+use Rattle.refusals.specs.OneAnswer.{ToldApart}
 use Rattle.buffer.specs.Buffer.{Buffer}
 use Rattle.decoder.specs.declared.Decoder.{Decoder}
 use Rattle.decoder.specs.declared.Fed.{Fed}
+use Rattle.decoder.specs.declared.GatewayFed.{GatewayFed}
 use Rattle.decoder.specs.declared.Next.{Next}
-use Rattle.decoder.specs.State.{bufferOf, fieldsBuffer, Sound, BufferIs, FeedIs, NextIs}
+use Rattle.decoder.specs.State.{bufferOf, fieldsBuffer, Sound, BufferIs, FeedIs, takenAnswer, GatewayFeedIs, NextIs}
 
 -- two decoders that differ in unused bytes at most: in none from the read position to the write position
 pub record UnusedApart (d e : Decoder) : Type 0 where
@@ -24,6 +26,9 @@ pub record OneAnswer : Type 0 where
   pub holds : (buffer : Buffer) (d e : Decoder) → BufferIs buffer d → BufferIs buffer e → UnusedApart d e
   pub feed : (self : Decoder) (piece : List ℕ) (a b : Fed) → FeedIs self piece a → FeedIs self piece b
       → (a .count ≡ b .count) × UnusedApart (a .decoder) (b .decoder)
+  pub takes : ToldApart takenAnswer
+  pub gateway-feed : (self : Decoder) (piece : List ℕ) (a b : GatewayFed) → GatewayFeedIs self piece a → GatewayFeedIs self piece b
+      → (a .answer ≡ b .answer) × UnusedApart (a .decoder) (b .decoder)
   pub next : (self : Decoder) (a b : Next) → NextIs self a → NextIs self b
       → (a .given ≡ b .given) × (a .count ≡ b .count) × (a .reply ≡ b .reply) × UnusedApart (a .decoder) (b .decoder)
   -- The unused bytes never matter: what a call hands back goes by the buffer, and that is the same

@@ -12,7 +12,7 @@ use Rattle.reply.specs.declared.CommandReply.{CommandReply}
 use Rattle.decoder.specs.declared.Decoder.{Decoder}
 use Rattle.decoder.specs.declared.Figures.{Figures}
 use Rattle.decoder.specs.declared.Taken.{Taken}
-use Rattle.decoder.specs.State.{bufferOf, BufferIs, FeedIs, taken, GatewayFeedIs, NextIs}
+use Rattle.decoder.specs.State.{bufferOf, BufferIs, FeedIs, takenAnswer, GatewayFeedIs, NextIs}
 
 -- with any feed: the pieces that may be offered, and what of one is taken
 abbrev pub callsBy : (List ℕ → Type 0) → (Decoder → List ℕ → ℕ → Decoder → Type 0) → runs.Calls CommandReply
@@ -55,7 +55,7 @@ InUse = runs.InUse calls
 
 -- the gateway feed, and the bytes that it took: "A count beside a refusal is 0"
 abbrev pub GatewayTakes : Decoder → List ℕ → ℕ → Decoder → Type 0
-GatewayTakes d piece n e = (answer : Taken) × (placeOr 0 (taken answer) ≡ n) × GatewayFeedIs d piece (record { answer = answer; decoder = e })
+GatewayTakes d piece n e = (answer : Taken) × (placeOr 0 (takenAnswer answer) ≡ n) × GatewayFeedIs d piece (record { answer = answer; decoder = e })
 
 -- any piece may be offered, an empty one too
 abbrev pub gatewayCalls : runs.Calls CommandReply
@@ -69,6 +69,10 @@ GatewayRun = runs.AnyOrder gatewayCalls Unit
 -- the same, and the caller cuts nothing anew
 abbrev pub PlainGatewayRun : (pieces ahead : List (List ℕ)) (taken : List ℕ) (replies : List CommandReply) → Decoder → Type 0
 PlainGatewayRun = runs.AnyOrder gatewayCalls ⊥
+
+-- demand 3's use on the gateway's path: each piece is offered, an empty one too, the decoder asked until it gives nothing, and what was not taken offered again
+abbrev pub InTurn : (pieces ahead : List (List ℕ)) (taken : List ℕ) (replies : List CommandReply) → Decoder → Type 0
+InTurn = runs.Run gatewayCalls Unit
 
 -- offering these pieces to the gateway feed, and asking until nothing comes, comes to an end, whatever the calls return
 abbrev pub GatewayEnds : (ahead : List (List ℕ)) → Decoder → Type 0

@@ -63,13 +63,13 @@ pub record FeedIs (self : Decoder) (piece : List ℕ) (r : Fed) : Type 0 where
   pub after : BufferIs (fedBuffer (bufferOf self) piece) (r .decoder)
 
 -- the bytes that the gateway feed took, or the refusal
-abbrev pub taken : Taken → Answer ℕ
-taken (Bytes count) = ok count
-taken (Refused e) = refused (feedRefusal e)
+abbrev pub takenAnswer : Taken → Answer ℕ
+takenAnswer (Bytes count) = ok count
+takenAnswer (Refused e) = refused (feedRefusal e)
 
 -- what `gateway_feed` hands back
 pub record GatewayFeedIs (self : Decoder) (piece : List ℕ) (r : GatewayFed) : Type 0 where
-  pub answer : taken (r .answer) ≡ gatewayAnswer (bufferOf self) piece
+  pub answer : takenAnswer (r .answer) ≡ gatewayAnswer (bufferOf self) piece
   pub after : BufferIs (gatewayBuffer (bufferOf self) piece) (r .decoder)
   -- "changes nothing", "nothing changed": where no byte is taken, no unused byte is another either. A state that no calls can make is taken as a fresh
   -- one, and comes back as such

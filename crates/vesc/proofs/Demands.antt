@@ -40,12 +40,14 @@ use Rattle.reply.specs.declared.Decoded.{Decoded}
 use Rattle.reply.specs.Reply.{emptyReply}
 use Rattle.stream.proofs.Rule.{reading-by-rule}
 use Rattle.buffer.proofs.Runs.{run-front, run-plain}
+use Rattle.buffer.proofs.AnyOrder.{any-front}
 use Rattle.buffer.proofs.Use.{run-in-use}
 use Rattle.decoder.specs.Judge.{decodeJudge}
 use Rattle.decoder.proofs.Judging.{decode-steady}
 use Rattle.reply.proofs.Nearness.{decoded-near}
+use Rattle.decoder.proofs.GatewayRuns.{any-reached}
 use Rattle.decoder.proofs.DemandThree as stream
-use Rattle.vesc.specs.Demands.{EncodeRefuses, DecodeRefuses, Fields, fieldsRead, Way, no-start, start-wrong, no-length, no-id, unknown-id, no-field, no-nul, length-wrong, no-end, end-wrong, sum-wrong, good, answerOf, DemandOne, DemandTwo, DemandThree, LineFigures, summed}
+use Rattle.vesc.specs.Demands.{EncodeRefuses, DecodeRefuses, Fields, fieldsRead, Way, no-start, start-wrong, no-length, no-id, unknown-id, no-field, no-nul, length-wrong, no-end, end-wrong, sum-wrong, good, answerOf, DemandOne, DemandTwo, DemandThree, DemandThreeGateway, LineFigures, summed}
 
 -- ---- a fact or its other side
 by-order : {C : Type 0} (a b : ℕ) → (a < b → C) → (b ≤ a → C) → C
@@ -227,6 +229,24 @@ demand-three =
       takes-some = λ run. stream.takes-some run;
     }
 
+pub demand-three-gateway : DemandThreeGateway
+demand-three-gateway =
+    record {
+      as-read = λ run drained.
+          record {
+            stream = any-front run;
+            in-order = stream.gateway-replies run drained;
+            unread = stream.gateway-unread run drained;
+            in-time = stream.gateway-in-time run drained;
+          };
+      whole = λ run. stream.gateway-whole run;
+      in-turn = λ run. stream.gateway-in-turn run;
+      exists = stream.gateway-exists;
+      asking-ends = stream.gateway-asking-ends;
+      ends = λ run. stream.gateway-ends run;
+      takes-some = λ reached. stream.gateway-takes-some reached;
+    }
+
 pub line-figures : LineFigures
 line-figures =
     record {
@@ -236,4 +256,8 @@ line-figures =
       none-cleared = λ used. stream.none-cleared used;
       in-runs = λ run. run-in-use run;
       in-use = λ used. stream.in-use used;
+      gateway-none-cleared = λ reached. stream.gateway-none-cleared reached;
+      gateway-balance = λ reached. stream.gateway-balance reached;
+      in-gateway-runs = λ run. any-reached run;
+      gateway-reached = λ reached. stream.gateway-either reached;
     }

@@ -38,13 +38,15 @@ use Rattle.reply.specs.declared.CommandReply.{CommandReply}
 use Rattle.stream.specs.Reading as verdict
 use Rattle.stream.specs.Reading.{Reading, readAll, Reads, repliesOf, joined}
 use Rattle.stream.specs.Lateness.{NoneOver}
-use Rattle.buffer.specs.Runs.{Nonempty, GivenSoFar, Totals}
+use Rattle.buffer.specs.Runs.{Nonempty, AskingEnds, GivenSoFar, Totals}
 use Rattle.decoder.specs.declared.Decoder.{Decoder}
 use Rattle.decoder.specs.declared.Fed.{Fed}
+use Rattle.decoder.specs.declared.GatewayFed.{GatewayFed}
 use Rattle.decoder.specs.declared.Figures.{Figures}
 use Rattle.decoder.specs.Judge.{decodeJudge}
-use Rattle.decoder.specs.State.{bufferOf, heldOf, figuresOf, FeedIs}
+use Rattle.decoder.specs.State.{bufferOf, heldOf, figuresOf, FeedIs, takenAnswer, GatewayFeedIs}
 use Rattle.decoder.specs.Runs.{Run, PlainRun, Ends, InUse, Reached, figuresBy}
+use Rattle.decoder.specs.Runs.{gatewayCalls, GatewayRun, PlainGatewayRun, InTurn, GatewayEnds, GatewayReached}
 
 -- "1. No call traps, hangs or relies on its caller. IncompleteData, InvalidFrame, UnknownPacket, ChecksumMismatch,
 -- BufferTooSmall and PayloadTooLong come exactly when document 01 says. A refused encode writes nothing."
@@ -197,11 +199,38 @@ pub record DemandThree : Type 0 where
   pub takes-some : {pieces ahead : List (List ℕ)} {taken : List ℕ} {replies : List CommandReply} {d : Decoder} → Run pieces ahead taken replies d
       → (piece : List ℕ) (fed : Fed) → 0 < length piece → FeedIs d piece fed → 0 < fed .count
 
+-- Demand 3 on the gateway's path. Document 02, W12: "Demand 3 on this path then allows empty pieces."
+-- `GatewayRun pieces ahead taken replies d`: any calls of `gateway_feed` and `next` whatever, in any order, from a fresh decoder on. The caller need not ask
+-- before it offers a piece: the piece is then refused, nothing changes, and it stays ahead. Pieces may be empty, and the caller may put empty ones anywhere
+-- (buffer/specs/Runs.antt, `AnyOrder`). Each call may return whatever its contract allows: `GatewayFeedIs` for `gateway_feed`. d .drained is the
+-- decoder's own mark: it is set by a `next` that gives nothing ("taken in and asked for").
+pub record DemandThreeGateway : Type 0 where
+  -- at each point at which the decoder is drained
+  pub as-read : {pieces ahead : List (List ℕ)} {taken : List ℕ} {replies : List CommandReply} {d : Decoder}
+      → GatewayRun pieces ahead taken replies d → d .drained ≡ true → AsRead pieces ahead taken replies d
+  -- Once nothing is ahead, "the replies are those of one left-to-right reading of the uncut stream"
+  pub whole : {pieces : List (List ℕ)} {taken : List ℕ} {replies : List CommandReply} {d : Decoder} → GatewayRun pieces [] taken replies d → d .drained ≡ true
+      → replies ≡ repliesOf (readAll decodeJudge (joined pieces) .frames)
+  -- The use of demand 3's words, with empty pieces allowed, is among these calls: each piece is offered, and the decoder asked until it gives nothing
+  pub in-turn : {pieces ahead : List (List ℕ)} {taken : List ℕ} {replies : List CommandReply} {d : Decoder}
+      → InTurn pieces ahead taken replies d → GatewayRun pieces ahead taken replies d × (d .drained ≡ true)
+  -- Every cutting, into any pieces, has such calls that offer just them, and take all
+  pub exists : (pieces : List (List ℕ))
+      → (replies : List CommandReply) × (d : Decoder) × PlainGatewayRun pieces [] (joined pieces) replies d × (d .drained ≡ true)
+  -- Asking comes to an end, whatever the decoder; and from any point at which it is drained, if each piece is offered and the decoder asked: every call has a
+  -- result, and whatever the results are, all is taken in the end
+  pub asking-ends : (d : Decoder) → AskingEnds gatewayCalls d
+  pub ends : {pieces ahead : List (List ℕ)} {taken : List ℕ} {replies : List CommandReply} {d : Decoder}
+      → GatewayRun pieces ahead taken replies d → d .drained ≡ true → GatewayEnds ahead d
+  -- because a drained decoder takes a byte or more of a nonempty piece
+  pub takes-some : {totals : Totals} {d : Decoder} → Reached totals d → d .drained ≡ true → (piece : List ℕ) (r : GatewayFed) → 0 < length piece → GatewayFeedIs d piece r
+      → (n : ℕ) × (takenAnswer (r .answer) ≡ ok n) × (0 < n)
+
 -- The line figures. Document 02, W3: "Give cleared its own figure and let passed count only bytes moved over by the reading. From
 -- a fresh state on, while fed is below the top value, fed is handed plus passed plus cleared plus held."
--- `Reached totals d`: d comes from a fresh decoder by any calls whatever, empty pieces fed too, and `totals` is what these calls
--- copied, gave, moved over and cleared in all (buffer/specs/Runs.antt). `figures` of d returned `figures`. When `feed` clears
--- is in buffer/specs/Clearing.antt.
+-- `Reached totals d`: d comes from a fresh decoder by any calls whatever, of either feed, empty pieces fed too, and `totals` is what
+-- these calls copied, gave, moved over and cleared in all (buffer/specs/Runs.antt). `figures` of d returned `figures`. When `feed`
+-- clears is in buffer/specs/Clearing.antt.
 pub record LineFigures : Type 0 where
   pub balance : {totals : Totals} {d : Decoder} → Reached totals d → (figures : Figures) → figures ≡ figuresOf (bufferOf d) → figures .fed < 2 ^ 64 - 1
       → figures .fed ≡ figures .handed + figures .passed + figures .cleared + figures .held
@@ -215,3 +244,11 @@ pub record LineFigures : Type 0 where
   pub in-runs : {pieces ahead : List (List ℕ)} {taken : List ℕ} {replies : List CommandReply} {d : Decoder} → Run pieces ahead taken replies d → InUse true d
   -- and the decoders of that use are among those that any calls make
   pub in-use : {asked : Bool} {d : Decoder} → InUse asked d → (totals : Totals) × Reached totals d
+  -- W12: "for a decoder fed only this way since fresh, cleared is 0 and W3's total stands without it": `GatewayReached` is by any calls of `gateway_feed`
+  -- and `next`
+  pub gateway-none-cleared : {totals : Totals} {d : Decoder} → GatewayReached totals d → (figures : Figures) → figures ≡ figuresOf (bufferOf d) → figures .cleared ≡ 0
+  pub gateway-balance : {totals : Totals} {d : Decoder} → GatewayReached totals d → (figures : Figures) → figures ≡ figuresOf (bufferOf d) → figures .fed < 2 ^ 64 - 1
+      → figures .fed ≡ figures .handed + figures .passed + figures .held
+  pub in-gateway-runs : {pieces ahead : List (List ℕ)} {taken : List ℕ} {replies : List CommandReply} {d : Decoder}
+      → GatewayRun pieces ahead taken replies d → (totals : Totals) × GatewayReached totals d
+  pub gateway-reached : {totals : Totals} {d : Decoder} → GatewayReached totals d → Reached totals d

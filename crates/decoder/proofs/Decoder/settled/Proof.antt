@@ -43,14 +43,13 @@ returns-4 : tie.Need-returns-4
 returns-4 c = search needs
 
 returns-5 : tie.Need-returns-5
-returns-5 c =
-    (
-      record {
-        is = refl;
-        sound = record { low = search needs; high = search needs; long = search needs; few = λ marked. absurd (true≢false (sym marked ∙ c .if3 .left)) };
-      },
-      λ s. refl,
-    )
+returns-5 c = (
+  record {
+    is = refl;
+    sound = record { low = search needs; high = search needs; long = search needs; few = λ marked. absurd (true≢false (sym marked ∙ c .if3 .left)) };
+  },
+  λ s. refl,
+)
 
 pub settled-spec : {M : Type 1} → statement M
 settled-spec =
