@@ -34,9 +34,9 @@ oracle:
 
 # Makes the stored cases and the Rust's answers to them anew.
 answers: oracle
-	@target/oracle/build/release/answers crates/replay numbers unpackers commands replies streams faults
+	@target/oracle/build/release/answers crates/replay numbers unpackers commands replies streams gateway faults
 
-# Compares with the Rust over fresh random cases: make compare SEED=7 DECODES=2000000 ENCODES=200000 SEQUENCES=20000 READS=1000000
+# Compares with the Rust over fresh random cases; so many SEQUENCES of calls twice, without the gateway feed and with it: make compare SEED=7 DECODES=2000000 ENCODES=200000 SEQUENCES=20000 READS=1000000
 SEED ?= 1
 DECODES ?= 20000
 ENCODES ?= 2000
@@ -47,7 +47,7 @@ compare: oracle
 	@target/oracle/build/release/answers compare $(SEED) $(DECODES) $(ENCODES) $(SEQUENCES) $(READS) tools/run replay
 	@oracle/lines $(SEED)
 
-# Shows that the same comparison finds wrong variants of the Rust, each by name.
+# Shows that the same comparison finds wrong variants of the Rust, and of the gateway feed's reference, each by name.
 variants: oracle
 	@mkdir -p target && rt check replay > target/compare.log 2>&1 || { cat target/compare.log >&2; exit 1; }
 	@SEED=$(SEED) oracle/variants $(DECODES) $(ENCODES) $(SEQUENCES) $(READS)

@@ -6,6 +6,7 @@ use vesc::Consumed;
 use vesc::Decoder;
 use vesc::Encoded;
 use vesc::Kind;
+use vesc::Taken;
 use vesc::ValuesMask;
 
 fn say(what: &[u8], number: u64) {
@@ -91,7 +92,29 @@ fn asked(start: Decoder) -> Decoder {
     decoder
 }
 
-// Offers a piece until all of it is taken: `feed` takes at least a byte of a nonempty one.
+// How many bytes were taken, or 0 and a word on why none were.
+fn counted(answer: Taken) -> usize {
+    match answer {
+        Taken::Bytes(count) => {
+            say(b"bytes taken: ", count as u64);
+            count
+        }
+        Taken::Refused(e) => {
+            say(b"refusal ", e.number() as u64);
+            0
+        }
+    }
+}
+
+// Offers a piece once, and does not ask.
+fn offered(decoder: Decoder, piece: &[u8]) -> Decoder {
+    let fed = decoder.gateway_feed(piece);
+    let answer = fed.answer;
+    counted(answer);
+    fed.decoder
+}
+
+// Offers a piece until all of it is taken: a drained decoder takes at least a byte of a nonempty one.
 fn received(start: Decoder, piece: &[u8]) -> Decoder {
     let mut decoder = start;
     let mut taken: usize = 0;
@@ -100,11 +123,11 @@ fn received(start: Decoder, piece: &[u8]) -> Decoder {
         if piece.len() <= taken {
             return decoder;
         }
-        let fed = decoder.feed(&piece[taken..]);
-        let count = fed.count;
-        say(b"bytes taken: ", count as u64);
+        let fed = decoder.gateway_feed(&piece[taken..]);
+        let answer = fed.answer;
+        let count = counted(answer);
         decoder = asked(fed.decoder);
-        // Never so: `feed` takes no more than it was offered. The test is for the prover.
+        // Never so: no more is taken than was offered. The test is for the prover.
         if piece.len() - taken < count {
             return decoder;
         }
@@ -155,6 +178,11 @@ fn main() {
     full[510] = 1;
     full[511] = 129;
     let half = received(Decoder::new(), &full);
+    let waiting = offered(half, &[]);
+    let kept = received(waiting, &[129, 169, 3]);
+    charted(kept);
+    let early = offered(kept, &[2, 1, 129]);
+    offered(early, &[129, 169, 3]);
     let lost = half.feed(&[]);
     charted(lost.decoder);
 }

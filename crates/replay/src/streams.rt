@@ -7,6 +7,7 @@ use crate::shows;
 use crate::shows::Line;
 use decoder::Decoder;
 use decoder::Figures;
+use decoder::Taken;
 use packer::UnpackedU16;
 
 // What the calls have come to: the decoder, the answer's line, how many replies were given, and the place
@@ -52,7 +53,49 @@ struct Fed {
     run: Run,
 }
 
-fn feed(text: &mut [u8], run: Run, piece: &[u8]) -> Fed {
+// What the gateway feed answered: whether it refused, and the count or the refusal's number.
+fn mix_taken(text: &mut [u8], line: Line, answer: Taken) -> Line {
+    match answer {
+        Taken::Bytes(count) => {
+            let now = shows::mix(text, line, 0);
+            shows::mix_wide(text, now, count as u64)
+        }
+        Taken::Refused(error) => {
+            let now = shows::mix(text, line, 1);
+            shows::mix_wide(text, now, error.number() as u64)
+        }
+    }
+}
+
+fn taken_count(answer: Taken) -> usize {
+    match answer {
+        Taken::Bytes(count) => count,
+        Taken::Refused(_) => 0,
+    }
+}
+
+fn gateway_feed(text: &mut [u8], run: Run, piece: &[u8]) -> Fed {
+    let before = run.decoder;
+    let fed = before.gateway_feed(piece);
+    let decoder = fed.decoder;
+    let answer = fed.answer;
+    let answered = mix_taken(text, run.line, answer);
+    let line = mix_state(text, answered, decoder);
+    Fed {
+        count: taken_count(answer),
+        run: Run {
+            decoder,
+            line,
+            replies: run.replies,
+            at: run.at,
+        },
+    }
+}
+
+fn feed(text: &mut [u8], run: Run, piece: &[u8], gateway: bool) -> Fed {
+    if gateway {
+        return gateway_feed(text, run, piece);
+    }
     let before = run.decoder;
     let answer = before.feed(piece);
     let decoder = answer.decoder;
@@ -127,9 +170,9 @@ fn smaller(a: usize, b: usize) -> usize
     if a < b { a } else { b }
 }
 
-fn feed_some(text: &mut [u8], run: Run, rest: &[u8], size: usize) -> Fed {
+fn feed_some(text: &mut [u8], run: Run, rest: &[u8], size: usize, gateway: bool) -> Fed {
     let end = smaller(size, rest.len());
-    feed(text, run, &rest[..end])
+    feed(text, run, &rest[..end], gateway)
 }
 
 fn moved(run: Run, at: usize) -> Run {
@@ -164,15 +207,31 @@ fn taken_back(run: Run, size: usize) -> Run {
     moved(run, at - size)
 }
 
-// Offers the next `size` bytes of the stream, or as many as are left.
-fn feed_next(text: &mut [u8], run: Run, stream: &[u8], size: usize) -> Run {
+// Offers the next `size` bytes of the stream, or as many as are left, to one of the two feeds.
+fn feed_next(text: &mut [u8], run: Run, stream: &[u8], size: usize, gateway: bool) -> Run {
     let at = run.at;
     if stream.len() < at {
         return run;
     }
-    let fed = feed_some(text, run, &stream[at..], size);
+    let fed = feed_some(text, run, &stream[at..], size, gateway);
     let after = fed.run;
     passed(after, stream, fed.count)
+}
+
+// The mark goes into the digest.
+fn look(text: &mut [u8], run: Run) -> Run {
+    let decoder = run.decoder;
+    let mut flag: u32 = 0;
+    if decoder.drained {
+        flag = 1;
+    }
+    let line = shows::mix(text, run.line, flag);
+    Run {
+        decoder,
+        line,
+        replies: run.replies,
+        at: run.at,
+    }
 }
 
 fn call(text: &mut [u8], run: Run, stream: &[u8], code: u8, size: usize) -> Run {
@@ -183,12 +242,18 @@ fn call(text: &mut [u8], run: Run, stream: &[u8], code: u8, size: usize) -> Run 
             after
         }
         1 => drain(text, run),
-        2 => feed_next(text, run, stream, size),
+        2 => feed_next(text, run, stream, size, false),
         3 => {
-            let fed = feed_next(text, run, stream, size);
+            let fed = feed_next(text, run, stream, size, false);
             drain(text, fed)
         }
         4 => passed(run, stream, size),
+        6 => feed_next(text, run, stream, size, true),
+        7 => {
+            let fed = feed_next(text, run, stream, size, true);
+            drain(text, fed)
+        }
+        8 => look(text, run),
         _ => taken_back(run, size),
     }
 }

@@ -1,7 +1,8 @@
 // Runs the vectors that document 01 wants run, and prints what comes: the catalogue's check value of
 // CRC-16/XMODEM, the two readings past 2^24, the frames that it does not mark P and its worked stream.
-// An encode behind a million hops is added.
+// An encode behind a million hops is added, and states that are handed to the gateway feed (document 02, W12).
 mod frames;
+mod handed;
 mod says;
 mod worked;
 
@@ -30,4 +31,5 @@ fn main() {
     frames::name_in_fw_version();
     frames::name_in_fw_info();
     worked::stream();
+    handed::states();
 }

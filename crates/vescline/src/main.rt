@@ -1,10 +1,11 @@
 // Reads a controller line's bytes from standard input to its end, prints the id of each reply on a
-// line, and at the end the line's figures. A thin program over the proved decoder: it never feeds an
-// empty piece, asks until nothing comes, and offers again what was not taken.
+// line, and at the end the line's figures. A thin program over the proved decoder: it offers what it read to
+// the gateway feed, asks until nothing comes, and offers again what was not taken.
 mod printing;
 mod waiting;
 
 use decoder::Decoder;
+use decoder::Taken;
 use libc::STDIN_FILENO;
 
 // The decoder, and how many bytes of text wait to be written; `ok` is false once reading or writing failed.
@@ -40,8 +41,16 @@ fn asked(line: Line, text: &mut [u8]) -> Line {
     Line { decoder, used, ok }
 }
 
-// Feeds a piece until it is taken. `feed` takes at least a byte of a nonempty piece, so its length is
-// turns enough.
+// How many bytes were taken. None is refused here: `asked` leaves a drained decoder.
+fn taken_count(answer: Taken) -> usize {
+    match answer {
+        Taken::Bytes(count) => count,
+        Taken::Refused(_) => 0,
+    }
+}
+
+// Feeds a piece until it is taken. A drained decoder takes at least a byte of a nonempty piece, so its length
+// is turns enough.
 fn fed(line: Line, piece: &[u8], text: &mut [u8]) -> Line {
     let mut now = line;
     let mut at: usize = 0;
@@ -53,9 +62,10 @@ fn fed(line: Line, piece: &[u8], text: &mut [u8]) -> Line {
         let used = now.used;
         let ok = now.ok;
         let before = now.decoder;
-        let answer = before.feed(&piece[at..]);
+        let answer = before.gateway_feed(&piece[at..]);
         let decoder = answer.decoder;
-        let count = answer.count;
+        let taken = answer.answer;
+        let count = taken_count(taken);
         now = asked(Line { decoder, used, ok }, text);
         if piece.len() - at < count {
             return now;

@@ -4,10 +4,10 @@ use Rattle.example.proofs.received.Statement.{statement}
 use Rattle.example.proofs.received.Tie as tie
 
 abbrev Inv-loop : tie.InvT-loop
-Inv-loop piece decoder₀ taken₀ turns₀ t8 decoder taken turns = Unit {0}
+Inv-loop piece decoder₀ taken₀ turns₀ decoder taken turns = Unit {0}
 
 abbrev μ-loop : tie.MeasureT-loop
-μ-loop piece decoder₀ taken₀ turns₀ t8 decoder taken turns = turns
+μ-loop piece decoder₀ taken₀ turns₀ decoder taken turns = turns
 
 loop-holds : tie.Need-loop-holds Inv-loop μ-loop
 loop-holds c = tt
@@ -15,23 +15,20 @@ loop-holds c = tt
 returns : tie.Need-returns Inv-loop μ-loop
 returns c = search needs
 
-sub-feed : tie.Need-sub-feed Inv-loop μ-loop
-sub-feed c = search needs
+sub-gateway-feed : tie.Need-sub-gateway-feed Inv-loop μ-loop
+sub-gateway-feed c = search needs
 
-part-feed-start : tie.Need-part-feed-start Inv-loop μ-loop
-part-feed-start c = search needs
+part-gateway-feed-start : tie.Need-part-gateway-feed-start Inv-loop μ-loop
+part-gateway-feed-start c = search needs
 
-part-feed-end : tie.Need-part-feed-end Inv-loop μ-loop
-part-feed-end c = search needs
+part-gateway-feed-end : tie.Need-part-gateway-feed-end Inv-loop μ-loop
+part-gateway-feed-end c = search needs
 
-feed-requires : tie.Need-feed-requires Inv-loop μ-loop
-feed-requires c κs = search needs
+gateway-feed-requires : tie.Need-gateway-feed-requires Inv-loop μ-loop
+gateway-feed-requires c κs = search needs
 
-slice-aggregate-say : tie.Need-slice-aggregate-say Inv-loop μ-loop
-slice-aggregate-say c = search needs
-
-say-requires : tie.Need-say-requires Inv-loop μ-loop
-say-requires c κs = search needs
+counted-requires : tie.Need-counted-requires Inv-loop μ-loop
+counted-requires c κs = search needs
 
 asked-requires : tie.Need-asked-requires Inv-loop μ-loop
 asked-requires c κs = search needs
@@ -65,12 +62,11 @@ received-spec =
     μ-loop
     loop-holds
     returns
-    sub-feed
-    part-feed-start
-    part-feed-end
-    feed-requires
-    slice-aggregate-say
-    say-requires
+    sub-gateway-feed
+    part-gateway-feed-start
+    part-gateway-feed-end
+    gateway-feed-requires
+    counted-requires
     asked-requires
     sub-if2
     returns-2

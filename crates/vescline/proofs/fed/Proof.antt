@@ -20,17 +20,20 @@ same-length c = search needs
 returns : tie.Need-returns Inv-loop μ-loop
 returns c = search needs
 
-sub-feed : tie.Need-sub-feed Inv-loop μ-loop
-sub-feed c = search needs
+sub-gateway-feed : tie.Need-sub-gateway-feed Inv-loop μ-loop
+sub-gateway-feed c = search needs
 
-part-feed-start : tie.Need-part-feed-start Inv-loop μ-loop
-part-feed-start c = search needs
+part-gateway-feed-start : tie.Need-part-gateway-feed-start Inv-loop μ-loop
+part-gateway-feed-start c = search needs
 
-part-feed-end : tie.Need-part-feed-end Inv-loop μ-loop
-part-feed-end c = search needs
+part-gateway-feed-end : tie.Need-part-gateway-feed-end Inv-loop μ-loop
+part-gateway-feed-end c = search needs
 
-feed-requires : tie.Need-feed-requires Inv-loop μ-loop
-feed-requires c κs = search needs
+gateway-feed-requires : tie.Need-gateway-feed-requires Inv-loop μ-loop
+gateway-feed-requires c κs = search needs
+
+taken-count-requires : tie.Need-taken-count-requires Inv-loop μ-loop
+taken-count-requires c κs = search needs
 
 asked-requires : tie.Need-asked-requires Inv-loop μ-loop
 asked-requires c κs = search needs
@@ -71,10 +74,11 @@ fed-spec =
     loop-holds
     same-length
     returns
-    sub-feed
-    part-feed-start
-    part-feed-end
-    feed-requires
+    sub-gateway-feed
+    part-gateway-feed-start
+    part-gateway-feed-end
+    gateway-feed-requires
+    taken-count-requires
     asked-requires
     sub-if2
     same-length-2
