@@ -9,7 +9,7 @@ use borrow.Author.Tests.{ltb-false, lt-ltb, le-ltb, eq-eqb, ne-eqb, eqb-true}
 use lib.Dec.{ltb, eqb}
 use lib.ListN.{length, take, length-append}
 use lib.Seq.{length-take-le, take-length}
-use Rattle.buffer.specs.Buffer.{Buffer, atMost, atFront, moved, allCleared, emptied, fitting, markFed, copied, feedCount, fedBuffer, gatewayBuffer}
+use Rattle.buffer.specs.Buffer.{Buffer, atMost, atFront, moved, allCleared, emptied, fitting, markFed, copied, feedCount, fedBuffer}
 use Rattle.buffer.specs.Clearing.{Clears, Keeps, Clearing}
 use Rattle.buffer.proofs.Figures.{capped, capped-under}
 
@@ -46,7 +46,7 @@ pub record Fits (buffer : Buffer) : Type 0 where
   pub few : buffer .drained ≡ true → length (buffer .unread) ≤ 109
 
 -- `feed` of any piece leaves such a buffer.
-moved-fits : (n : ℕ) (buffer : Buffer) → Fits buffer → Fits (moved n buffer)
+pub moved-fits : (n : ℕ) (buffer : Buffer) → Fits buffer → Fits (moved n buffer)
 unfolding moved
 moved-fits n buffer fits = by (ltb (512 - buffer .wpos) n)
   where
@@ -70,7 +70,7 @@ mark-stays n mark = by (eqb n 0) refl
     by true e h = (eqb-true _ _ e, h)
     by false e h = absurd (true≢false (sym h))
 
-copied-fits : (piece : List ℕ) (buffer : Buffer) → Fits buffer → Fits (copied piece (fitting (length piece) buffer) buffer)
+pub copied-fits : (piece : List ℕ) (buffer : Buffer) → Fits buffer → Fits (copied piece (fitting (length piece) buffer) buffer)
 unfolding fitting copied
 copied-fits piece buffer f =
     let h = capped (512 - buffer .wpos) (length piece) in
@@ -86,16 +86,6 @@ copied-fits piece buffer f =
 pub feed-fits : (buffer : Buffer) (piece : List ℕ) → Fits buffer → Fits (fedBuffer buffer piece)
 unfolding fedBuffer feedCount
 feed-fits buffer piece fits = copied-fits piece (emptied (moved (length piece) buffer)) (emptied-fits _ (moved-fits (length piece) buffer fits))
-
--- and so does the gateway feed.
-pub gateway-fits : (buffer : Buffer) (piece : List ℕ) → Fits buffer → Fits (gatewayBuffer buffer piece)
-unfolding gatewayBuffer
-gateway-fits buffer piece fits = by (eqb (length piece) 0) (buffer .drained)
-  where
-    by : (a b : Bool) → Fits (cond a buffer (cond b (copied piece (fitting (length piece) (moved (length piece) buffer)) (moved (length piece) buffer)) buffer))
-    by true b = fits
-    by false true = copied-fits piece (moved (length piece) buffer) (moved-fits (length piece) buffer fits)
-    by false false = fits
 
 -- what is left free before the copying, with the unread bytes kept and so none cleared
 record Free (buffer ready : Buffer) : Type 0 where

@@ -1,5 +1,5 @@
 -- The gateway feed, by cases; and beside the Rust's `feed`, which clears nothing of a drained buffer.
-use mathlib.Core.Path.{_≡_, refl, sym, ap, _∙_}
+use mathlib.Core.Path.{_≡_, refl, sym, ap, _∙_, subst}
 use mathlib.Core.Bool.{Bool, true, false, cond, true≢false}
 use mathlib.Core.List.{List, [], _++_, append-nil}
 use mathlib.Core.Logic.{_⊎_, inl, inr, ⊎-elim}
@@ -14,7 +14,7 @@ use Rattle.refusals.specs.Answers.{placeOr}
 use Rattle.buffer.specs.Buffer.{Buffer, atFront, moved, emptied, fitting, copied, feedCount, fedBuffer, gatewayAnswer, gatewayCount, gatewayBuffer}
 use Rattle.buffer.specs.Gateway.{NeverClears, GatewayFeed}
 use Rattle.buffer.proofs.Figures.{capped, capped-under}
-use Rattle.buffer.proofs.Feeding.{moved-when, emptied-not, taken}
+use Rattle.buffer.proofs.Feeding.{Fits, moved-fits, copied-fits, moved-when, emptied-not, taken}
 
 -- ---- by the tests that a program makes
 
@@ -106,6 +106,11 @@ module _ (buffer : Buffer) (piece : List ℕ) where
       let off : cond (eqb (length piece) 0) (ready .drained) false ≡ false = simp (ne-eqb (length piece) 0 (λ q. omega (arith, t .some))) in
       absurd (true≢false (sym m ∙ ap (λ (l : Buffer). l .drained) (t .after) ∙ off)))
       goes
+
+  -- It leaves a buffer that calls can make.
+  pub gateway-fits : Fits buffer → Fits (gatewayBuffer buffer piece)
+  gateway-fits f =
+      ⊎-elim (λ s. subst Fits (sym (s .same)) f) (λ t. subst Fits (sym (t .after)) (copied-fits piece ready (moved-fits (length piece) buffer f))) goes
 
   -- ---- beside `feed`
 

@@ -11,8 +11,7 @@ use Rattle.refusals.specs.declared.FeedError.the-variants.{NotDrained}
 use Rattle.refusals.specs.Answers.{placeOr}
 use Rattle.buffer.specs.Buffer.{Buffer, gatewayAnswer, gatewayCount, gatewayBuffer}
 use Rattle.buffer.specs.Runs.{AnyOrder, begins, feeds, gives-one, gives-none, cuts-anew, Totals, at-first, by-feed, by-reply, by-nothing}
-use Rattle.buffer.proofs.Feeding.{gateway-fits}
-use Rattle.buffer.proofs.Gateway.{gateway-empty, gateway-takes, gateway-refuses, gateway-most, gateway-keeps, gateway-cleared, gateway-mark, never-clears}
+use Rattle.buffer.proofs.Gateway.{gateway-empty, gateway-takes, gateway-refuses, gateway-fits, gateway-most, gateway-keeps, gateway-cleared, gateway-mark, never-clears}
 use Rattle.buffer.proofs.Nexts.{next-mark, next-cleared}
 use Rattle.buffer.proofs.Runs.{Faithful, Able}
 use Rattle.buffer.proofs.AnyOrder.{Keeping}

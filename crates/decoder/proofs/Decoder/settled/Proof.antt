@@ -33,7 +33,7 @@ returns-3 c =
     let at = c .before .before .before in
     let marked = at .if3 .taken in (
       record {
-        is = c .new3 .ensures .is ∙ sym (many-unread-fresh _ (at .before .before .before .if1 .left) (at .before .if2 .left) marked (c .before .if4 .taken));
+        is = c .new3 .ensures .is ∙ sym (many-unread-fresh _ (at .before .before .before .if1 .left) (at .before .if2 .left) marked (omega (arith, c .before .if4 .taken)));
         sound = c .new3 .ensures .sound;
       },
       λ s. absurd (omega (arith, s .few marked)),
