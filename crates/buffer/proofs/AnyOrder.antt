@@ -90,6 +90,13 @@ module _ {R : Type 0} (judge : Judge R) (steady : Steady judge) where
         (comes-on judge steady taken [] b (subst (Comes judge new rest) (sym (append-nil (unread t))) c))
     any-behind (cuts-anew other may order same) = any-behind order
 
+    -- At every point: the replies so far, and behind them those that the reading of what is unread gives.
+    pub any-so-far : {Free : Type 0} {pieces ahead : List (List ℕ)} {taken : List ℕ} {replies : List R} {s : calls .State} → AnyOrder calls Free pieces ahead taken replies s
+        → replies ++ repliesOf (readAll judge (unread s) .frames) ≡ repliesOf (readAll judge taken .frames)
+    any-so-far {replies = replies} {s} order =
+        let c = comes (unread s) in
+        ap (λ (l : List R). replies ++ l) (sym (c .2 .same-replies 0)) ∙ any-behind order (c .0) (c .1) (c .2) .same-replies 0
+
     -- A marked state: the judge can't tell more of what is unread.
     any-waits : {Free : Type 0} {pieces ahead : List (List ℕ)} {taken : List ℕ} {replies : List R} {s : calls .State}
         → AnyOrder calls Free pieces ahead taken replies s → marked s ≡ true → judge (unread s) ≡ notYet

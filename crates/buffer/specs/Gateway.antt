@@ -21,7 +21,8 @@ pub record NeverClears (buffer : Buffer) (piece : List ℕ) : Type 0 where
   pub same-buffer : gatewayBuffer buffer piece ≡ fedBuffer buffer piece
 
 pub record GatewayFeed : Type 0 where
-  pub drained : (buffer : Buffer) (piece : List ℕ) → buffer .drained ≡ true → length (buffer .unread) ≤ drainedMost → 0 < length piece → NeverClears buffer piece
+  pub drained : (buffer : Buffer) (piece : List ℕ) → buffer .drained ≡ true → length (buffer .unread) ≤ drainedMost → 0 < length piece
+      → NeverClears buffer piece
   -- "An empty piece returns 0 and changes nothing", in any state
   pub empty : (buffer : Buffer) → (gatewayAnswer buffer [] ≡ ok 0) × (gatewayBuffer buffer [] ≡ buffer)
   -- "15 NotDrained, exactly for a nonempty piece in any other state, nothing changed"

@@ -1,7 +1,7 @@
 -- Demand 3 and the line figures, of every run of the decoder. The words are in `vesc/specs/Demands.antt`; crate `buffer` shows the same over any
 -- decoder that loses nothing. Here it is said of whole `CommandReply` values, with document 01's 110 bytes.
 use mathlib.Core.Path.{_≡_, refl, sym, ap, _∙_}
-use mathlib.Core.List.{List, [], _∷_, append-nil}
+use mathlib.Core.List.{List, [], _∷_, _++_, append-nil}
 use mathlib.Core.Bool.{Bool, true}
 use mathlib.Core.Logic.{inl, inr}
 use Prim.Native.Nat.{ℕ, _+_, _<_, _≤_}
@@ -87,6 +87,10 @@ module _ {asked : Bool} {d : Decoder} (used : InUse asked d) where
       ap (λ (f : Figures). f .cleared) is ∙ told (reached-either (λ s t piece k. inl) (n .reached)) .cleared ∙ ap (λ (k : ℕ). atMost top k) (n .none)
 
 -- ---- demand 3 on the gateway's path
+
+pub gateway-so-far : {pieces ahead : List (List ℕ)} {taken : List ℕ} {replies : List CommandReply} {d : Decoder} → GatewayRun pieces ahead taken replies d
+    → replies ++ repliesOf (readAll decodeJudge (bufferOf d .unread) .frames) ≡ repliesOf (readAll decodeJudge taken .frames)
+gateway-so-far = any-order.any-so-far decodeJudge decode-steady gatewayCalls unread marked gateway-keeping
 
 module _ {pieces ahead : List (List ℕ)} {taken : List ℕ} {replies : List CommandReply} {d : Decoder} (run : GatewayRun pieces ahead taken replies d) (drained : d .drained ≡ true) where
   mark : marked d ≡ true

@@ -20,5 +20,6 @@ pub record GatewayLaws : Type 0 where
   -- "so after moving them there is always room. Show that clearing can never happen there"
   pub never-clears : (d : Decoder) (piece : List ℕ) → bufferOf d .drained ≡ true → 0 < length piece → NeverClears (bufferOf d) piece
   -- For a nonempty piece and a drained decoder both feeds return the same count and the same state
-  pub same : (d : Decoder) (piece : List ℕ) (g : GatewayFed) (f : Fed) → GatewayFeedIs d piece g → FeedIs d piece f → bufferOf d .drained ≡ true → 0 < length piece
+  pub same : (d : Decoder) (piece : List ℕ) (g : GatewayFed) (f : Fed) → GatewayFeedIs d piece g → FeedIs d piece f
+      → bufferOf d .drained ≡ true → 0 < length piece
       → (takenAnswer (g .answer) ≡ ok (f .count)) × UnusedApart (g .decoder) (f .decoder)

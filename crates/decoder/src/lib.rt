@@ -194,7 +194,7 @@ impl Decoder {
         self
     }
 
-    // As in the Rust, also where an empty piece is fed and the tail is full.
+    // As in the Rust, also where an empty piece is fed and the tail is full. The mark stays: only `next` sets it.
     fn emptied(mut self) -> Decoder
         requires { ⌜ Sound self ⌝ }
         ensures { λ r. ⌜ BufferIs (emptied (bufferOf self)) r ⌝ }
@@ -240,10 +240,10 @@ impl Decoder {
         self.settled().moved(piece.len()).emptied().copied(piece)
     }
 
-    // The gateway's feed: nothing that was fed is ever lost. Takes as much of the piece as fits, a byte or more.
-    // What is not taken is to be fed again. An empty piece does nothing. A piece with bytes is refused, and
-    // nothing changes, unless the decoder is drained: ask `next` until it gives nothing. There at most 109
-    // bytes are unread, so that after moving them there is room, and nothing to clear.
+    // The gateway's feed, which never clears. Takes as much of the piece as fits. What is not taken is to be fed
+    // again. An empty piece changes nothing. If the decoder is not drained, a nonempty piece is refused and
+    // nothing changes: call `next` until it gives nothing, then feed again. A drained decoder has at most 109
+    // bytes unread, so there is room for a byte or more once they are at the front.
     pub fn gateway_feed(self, piece: &[u8]) -> GatewayFed
         ensures { λ r. ⌜ GatewayFeedIs self (now (piece .entry)) r ⌝ }
     {

@@ -232,6 +232,7 @@ demand-three =
 pub demand-three-gateway : DemandThreeGateway
 demand-three-gateway =
     record {
+      so-far = λ run. stream.gateway-so-far run;
       as-read = λ run drained.
           record {
             stream = any-front run;

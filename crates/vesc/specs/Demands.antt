@@ -200,30 +200,37 @@ pub record DemandThree : Type 0 where
       → (piece : List ℕ) (fed : Fed) → 0 < length piece → FeedIs d piece fed → 0 < fed .count
 
 -- Demand 3 on the gateway's path. Document 02, W12: "Demand 3 on this path then allows empty pieces."
--- `GatewayRun pieces ahead taken replies d`: any calls of `gateway_feed` and `next` whatever, in any order, from a fresh decoder on. The caller need not ask
--- before it offers a piece: the piece is then refused, nothing changes, and it stays ahead. Pieces may be empty, and the caller may put empty ones anywhere
--- (buffer/specs/Runs.antt, `AnyOrder`). Each call may return whatever its contract allows: `GatewayFeedIs` for `gateway_feed`. d .drained is the
--- decoder's own mark: it is set by a `next` that gives nothing ("taken in and asked for").
+-- `GatewayRun pieces ahead taken replies d` is any calls of `gateway_feed` and `next`, in any order, from a fresh decoder on
+-- (buffer/specs/Runs.antt, `AnyOrder`). Pieces may be empty, and the caller may put empty ones anywhere. If it offers a piece
+-- before `next` gave nothing, the piece is refused, nothing changes, and the piece stays ahead. Each call may return whatever
+-- its contract allows: `GatewayFeedIs` for `gateway_feed`. `d .drained` is the decoder's own mark, set by a `next` that gives
+-- nothing: the bytes taken are then asked for.
 pub record DemandThreeGateway : Type 0 where
-  -- at each point at which the decoder is drained
+  -- At every point the replies so far are the first of the reading of what is taken; the reading of what is unread gives the rest
+  pub so-far : {pieces ahead : List (List ℕ)} {taken : List ℕ} {replies : List CommandReply} {d : Decoder} → GatewayRun pieces ahead taken replies d
+      → replies ++ repliesOf (readAll decodeJudge (bufferOf d .unread) .frames) ≡ repliesOf (readAll decodeJudge taken .frames)
+  -- At each point at which the decoder is drained they are all of them, and a good frame has come in time
   pub as-read : {pieces ahead : List (List ℕ)} {taken : List ℕ} {replies : List CommandReply} {d : Decoder}
       → GatewayRun pieces ahead taken replies d → d .drained ≡ true → AsRead pieces ahead taken replies d
   -- Once nothing is ahead, "the replies are those of one left-to-right reading of the uncut stream"
-  pub whole : {pieces : List (List ℕ)} {taken : List ℕ} {replies : List CommandReply} {d : Decoder} → GatewayRun pieces [] taken replies d → d .drained ≡ true
+  pub whole : {pieces : List (List ℕ)} {taken : List ℕ} {replies : List CommandReply} {d : Decoder}
+      → GatewayRun pieces [] taken replies d → d .drained ≡ true
       → replies ≡ repliesOf (readAll decodeJudge (joined pieces) .frames)
-  -- The use of demand 3's words, with empty pieces allowed, is among these calls: each piece is offered, and the decoder asked until it gives nothing
+  -- The use that demand 3 describes, with empty pieces allowed, is among these calls: `InTurn` offers each piece, asks until nothing
+  -- comes, and offers again what was not taken
   pub in-turn : {pieces ahead : List (List ℕ)} {taken : List ℕ} {replies : List CommandReply} {d : Decoder}
       → InTurn pieces ahead taken replies d → GatewayRun pieces ahead taken replies d × (d .drained ≡ true)
   -- Every cutting, into any pieces, has such calls that offer just them, and take all
   pub exists : (pieces : List (List ℕ))
       → (replies : List CommandReply) × (d : Decoder) × PlainGatewayRun pieces [] (joined pieces) replies d × (d .drained ≡ true)
-  -- Asking comes to an end, whatever the decoder; and from any point at which it is drained, if each piece is offered and the decoder asked: every call has a
-  -- result, and whatever the results are, all is taken in the end
+  -- Asking comes to an end, whatever the decoder. From any point at which it is drained, if each piece is offered and the decoder
+  -- then asked: every call has a result, and whatever the results are, all is taken in the end
   pub asking-ends : (d : Decoder) → AskingEnds gatewayCalls d
   pub ends : {pieces ahead : List (List ℕ)} {taken : List ℕ} {replies : List CommandReply} {d : Decoder}
       → GatewayRun pieces ahead taken replies d → d .drained ≡ true → GatewayEnds ahead d
   -- because a drained decoder takes a byte or more of a nonempty piece
-  pub takes-some : {totals : Totals} {d : Decoder} → Reached totals d → d .drained ≡ true → (piece : List ℕ) (r : GatewayFed) → 0 < length piece → GatewayFeedIs d piece r
+  pub takes-some : {totals : Totals} {d : Decoder} → Reached totals d → d .drained ≡ true
+      → (piece : List ℕ) (r : GatewayFed) → 0 < length piece → GatewayFeedIs d piece r
       → (n : ℕ) × (takenAnswer (r .answer) ≡ ok n) × (0 < n)
 
 -- The line figures. Document 02, W3: "Give cleared its own figure and let passed count only bytes moved over by the reading. From
@@ -235,7 +242,8 @@ pub record LineFigures : Type 0 where
   pub balance : {totals : Totals} {d : Decoder} → Reached totals d → (figures : Figures) → figures ≡ figuresOf (bufferOf d) → figures .fed < 2 ^ 64 - 1
       → figures .fed ≡ figures .handed + figures .passed + figures .cleared + figures .held
   -- each figure alone: `figuresBy totals` has the four totals, each held at the top value
-  pub alone : {totals : Totals} {d : Decoder} → Reached totals d → (figures : Figures) → figures ≡ figuresOf (bufferOf d) → figures ≡ figuresBy totals (heldOf (bufferOf d))
+  pub alone : {totals : Totals} {d : Decoder} → Reached totals d → (figures : Figures) → figures ≡ figuresOf (bufferOf d)
+      → figures ≡ figuresBy totals (heldOf (bufferOf d))
   -- every byte copied is in one of them, however many there were
   pub account : {totals : Totals} {d : Decoder} → Reached totals d
       → totals .bytesCopied ≡ totals .bytesGiven + totals .bytesMovedOver + totals .bytesCleared + heldOf (bufferOf d)
@@ -244,10 +252,12 @@ pub record LineFigures : Type 0 where
   pub in-runs : {pieces ahead : List (List ℕ)} {taken : List ℕ} {replies : List CommandReply} {d : Decoder} → Run pieces ahead taken replies d → InUse true d
   -- and the decoders of that use are among those that any calls make
   pub in-use : {asked : Bool} {d : Decoder} → InUse asked d → (totals : Totals) × Reached totals d
-  -- W12: "for a decoder fed only this way since fresh, cleared is 0 and W3's total stands without it": `GatewayReached` is by any calls of `gateway_feed`
-  -- and `next`
-  pub gateway-none-cleared : {totals : Totals} {d : Decoder} → GatewayReached totals d → (figures : Figures) → figures ≡ figuresOf (bufferOf d) → figures .cleared ≡ 0
-  pub gateway-balance : {totals : Totals} {d : Decoder} → GatewayReached totals d → (figures : Figures) → figures ≡ figuresOf (bufferOf d) → figures .fed < 2 ^ 64 - 1
+  -- W12: "for a decoder fed only this way since fresh, cleared is 0 and W3's total stands without it". `GatewayReached totals d`: d
+  -- comes from a fresh decoder by any calls of `gateway_feed` and `next`
+  pub gateway-none-cleared : {totals : Totals} {d : Decoder} → GatewayReached totals d → (figures : Figures) → figures ≡ figuresOf (bufferOf d)
+      → figures .cleared ≡ 0
+  pub gateway-balance : {totals : Totals} {d : Decoder} → GatewayReached totals d → (figures : Figures) → figures ≡ figuresOf (bufferOf d)
+      → figures .fed < 2 ^ 64 - 1
       → figures .fed ≡ figures .handed + figures .passed + figures .held
   pub in-gateway-runs : {pieces ahead : List (List ℕ)} {taken : List ℕ} {replies : List CommandReply} {d : Decoder}
       → GatewayRun pieces ahead taken replies d → (totals : Totals) × GatewayReached totals d

@@ -1,6 +1,6 @@
 //! The gateway feed, which the Rust does not have. This is a reference for it, from document 02's words (W12): the Rust's own decoder, its
-//! figures, and the mark `drained`. The mark is set in a fresh one and by a `next` that gives nothing; it is cleared by a nonempty piece of
-//! either feed and by a `next` that gives. An empty piece leaves it as it is, also one on which `feed` clears the buffer.
+//! figures, and the mark `drained`. The mark is set in a fresh one and by a `next` that gives nothing; it is taken away by a nonempty piece
+//! of either feed and by a `next` that gives. An empty piece leaves it as it is, also one on which `feed` clears the buffer.
 //! A nonempty piece into a drained state goes through the Rust's own `feed`. It is asserted that `feed` clears nothing there and takes a byte
 //! or more. An empty piece is never given to the Rust.
 
