@@ -1,7 +1,7 @@
 -- Any calls, in any order, of a decoder whose `feed` loses nothing in any state: whatever is asked, and whenever, comes to the one reading of what was taken.
 use mathlib.Core.Path.{_≡_, refl, sym, ap, _∙_, subst}
 use mathlib.Core.List.{List, [], _∷_, _++_, append-assoc, append-nil}
-use mathlib.Core.Bool.{Bool, true, false}
+use mathlib.Core.Bool.{Bool, true}
 use Prim.Native.Nat.{ℕ, _+_}
 use lib.ListN.{take}
 use Rattle.stream.specs.Reading.{notYet, Judge, Steady, readAll, repliesOf, joined}

@@ -28,6 +28,15 @@ pub moved-not : (n : ℕ) (buffer : Buffer) → n ≤ 512 - buffer .wpos → mov
 unfolding moved
 moved-not n buffer h = simp (le-ltb _ _ h)
 
+-- What moving to the front does not change.
+pub moved-same : {A : Type 0} (part : Buffer → A) (n : ℕ) (buffer : Buffer) → part (atFront buffer) ≡ part buffer → part (moved n buffer) ≡ part buffer
+unfolding moved
+moved-same part n buffer same = by (ltb (512 - buffer .wpos) n)
+  where
+    by : (b : Bool) → part (cond b (atFront buffer) buffer) ≡ part buffer
+    by true = same
+    by false = refl
+
 pub emptied-when : (buffer : Buffer) → buffer .wpos ≡ 512 → emptied buffer ≡ allCleared buffer
 unfolding emptied
 emptied-when buffer h = simp (eq-eqb _ _ h)
@@ -61,6 +70,10 @@ emptied-fits buffer fits = by (eqb (buffer .wpos) 512)
     by : (b : Bool) → Fits (cond b (allCleared buffer) buffer)
     by true = record { low = omega arith; high = omega arith; few = λ e. omega arith }
     by false = fits
+
+-- A nonempty piece takes the mark away.
+pub mark-off : (n : ℕ) (mark : Bool) → 0 < n → markFed n mark ≡ false
+mark-off n mark some = simp (ne-eqb n 0 (λ q. omega arith))
 
 -- A mark that is there after a feed was there before it, and the piece was empty.
 pub mark-stays : (n : ℕ) (mark : Bool) → markFed n mark ≡ true → (n ≡ 0) × (mark ≡ true)

@@ -5,16 +5,16 @@ use mathlib.Core.List.{List, [], _++_, append-nil}
 use mathlib.Core.Logic.{_⊎_, inl, inr, ⊎-elim}
 use Prim.Native.Nat.{ℕ, _+_, _-_, _<_, _≤_}
 use native.Mathlib.Omega.{arith}
-use borrow.Author.Tests.{ltb-false, ne-eqb, eqb-true, eqb-false}
+use borrow.Author.Tests.{ltb-false, ne-eqb, eqb-false}
 use lib.Dec.{ltb, eqb}
 use lib.ListN.{length, take}
 use lib.Seq.{take-length}
-use Rattle.refusals.specs.Refusals.{Answer, ok, refused, notDrained}
+use Rattle.refusals.specs.Refusals.{ok, refused, notDrained}
 use Rattle.refusals.specs.Answers.{placeOr}
 use Rattle.buffer.specs.Buffer.{Buffer, atFront, moved, emptied, fitting, copied, feedCount, fedBuffer, gatewayAnswer, gatewayCount, gatewayBuffer}
 use Rattle.buffer.specs.Gateway.{NeverClears, GatewayFeed}
 use Rattle.buffer.proofs.Figures.{capped, capped-under}
-use Rattle.buffer.proofs.Feeding.{Fits, moved-fits, copied-fits, moved-when, emptied-not, taken}
+use Rattle.buffer.proofs.Feeding.{Fits, moved-fits, copied-fits, moved-when, moved-same, emptied-not, mark-off, taken}
 
 -- ---- by the tests that a program makes
 
@@ -70,41 +70,23 @@ module _ (buffer : Buffer) (piece : List ℕ) where
   gateway-most = ⊎-elim (λ s. omega (arith, s .none)) (λ t. rw (t .count) (capped (512 - ready .wpos) (length piece) .high)) goes
 
   -- What was unread still is, with what was taken behind it.
-  moved-unread : ready .unread ≡ buffer .unread
-  unfolding moved
-  moved-unread = by (ltb (512 - buffer .wpos) (length piece))
-    where
-      by : (b : Bool) → cond b (atFront buffer) buffer .unread ≡ buffer .unread
-      by true = refl
-      by false = refl
-
-  moved-cleared : ready .cleared ≡ buffer .cleared
-  unfolding moved
-  moved-cleared = by (ltb (512 - buffer .wpos) (length piece))
-    where
-      by : (b : Bool) → cond b (atFront buffer) buffer .cleared ≡ buffer .cleared
-      by true = refl
-      by false = refl
-
   pub gateway-keeps : gatewayBuffer buffer piece .unread ≡ buffer .unread ++ take (gatewayCount buffer piece) piece
   unfolding copied
   gateway-keeps =
       ⊎-elim (λ s. ap (λ (l : Buffer). l .unread) (s .same) ∙ sym (append-nil (buffer .unread)) ∙ ap (λ (n : ℕ). buffer .unread ++ take n piece) (sym (s .none)))
-      (λ t. ap (λ (l : Buffer). l .unread) (t .after) ∙ (λ i. moved-unread i ++ take (sym (t .count) i) piece))
+      (λ t. ap (λ (l : Buffer). l .unread) (t .after) ∙ (λ i. moved-same (λ (l : Buffer). l .unread) (length piece) buffer refl i ++ take (sym (t .count) i) piece))
       goes
 
   pub gateway-cleared : gatewayBuffer buffer piece .cleared ≡ buffer .cleared
   unfolding copied
-  gateway-cleared = ⊎-elim (λ s. ap (λ (l : Buffer). l .cleared) (s .same)) (λ t. ap (λ (l : Buffer). l .cleared) (t .after) ∙ moved-cleared) goes
+  gateway-cleared = ⊎-elim (λ s. ap (λ (l : Buffer). l .cleared) (s .same)) (λ t. ap (λ (l : Buffer). l .cleared) (t .after) ∙ moved-same (λ (l : Buffer). l .cleared) (length piece) buffer refl) goes
 
   -- A mark that is there after it was there before it, and nothing changed.
   pub gateway-mark : gatewayBuffer buffer piece .drained ≡ true → gatewayBuffer buffer piece ≡ buffer
   unfolding copied
   gateway-mark m =
       ⊎-elim (λ s. s .same)
-      (λ t.
-      let off : cond (eqb (length piece) 0) (ready .drained) false ≡ false = simp (ne-eqb (length piece) 0 (λ q. omega (arith, t .some))) in
-      absurd (true≢false (sym m ∙ ap (λ (l : Buffer). l .drained) (t .after) ∙ off)))
+      (λ t. absurd (true≢false (sym m ∙ ap (λ (l : Buffer). l .drained) (t .after) ∙ mark-off (length piece) (ready .drained) (t .some))))
       goes
 
   -- It leaves a buffer that calls can make.

@@ -3,6 +3,7 @@ pub mod Copying
 pub mod Feeding
 pub mod Gateway
 pub mod Nexts
+pub mod Marking
 pub mod Runs
 pub mod AnyOrder
 pub mod Balance

@@ -1,13 +1,14 @@
 -- The gateway feed beside the Rust's `feed`. Document 02, W12: "There at most 109 bytes are unread, so after moving them there is always room. Show that
 -- clearing can never happen there, then remove it from that path".
 use mathlib.Core.Path.{_≡_}
-use mathlib.Core.Bool.{true, false}
+use mathlib.Core.Bool.{true, false, not}
 use mathlib.Core.List.{List, [], _++_}
 use Prim.Native.Nat.{ℕ, _<_, _≤_}
 use lib.ListN.{length, take}
 use Rattle.refusals.specs.Refusals.{ok, refused, notDrained}
 use Rattle.format.specs.Format.{capacity, drainedMost}
-use Rattle.buffer.specs.Buffer.{Buffer, moved, emptied, feedCount, fedBuffer, gatewayAnswer, gatewayCount, gatewayBuffer}
+use Rattle.stream.specs.Reading.{Judge}
+use Rattle.buffer.specs.Buffer.{Buffer, fresh, moved, emptied, feedCount, fedBuffer, gatewayAnswer, gatewayCount, gatewayBuffer, nextGiven, nextBuffer}
 
 -- a nonempty piece and a drained buffer
 pub record NeverClears (buffer : Buffer) (piece : List ℕ) : Type 0 where
@@ -31,3 +32,15 @@ pub record GatewayFeed : Type 0 where
   -- In every case what was unread still is, with what was taken behind it, and nothing is cleared
   pub keeps : (buffer : Buffer) (piece : List ℕ) → gatewayBuffer buffer piece .unread ≡ buffer .unread ++ take (gatewayCount buffer piece) piece
   pub none-cleared : (buffer : Buffer) (piece : List ℕ) → gatewayBuffer buffer piece .cleared ≡ buffer .cleared
+
+-- The mark: "a decoder that is fresh or whose last `next` after the latest nonempty feed gave nothing"
+pub record Mark : Type 1 where
+  pub fresh : fresh .drained ≡ true
+  pub next : {R : Type 0} (judge : Judge R) (buffer : Buffer) → nextBuffer judge buffer .drained ≡ not (nextGiven judge buffer)
+  -- a nonempty piece takes it away, by either feed
+  pub feed : (buffer : Buffer) (piece : List ℕ) → 0 < length piece → fedBuffer buffer piece .drained ≡ false
+  pub gateway-feed : (buffer : Buffer) (piece : List ℕ) → 0 < length piece → gatewayBuffer buffer piece .drained ≡ false
+  -- An empty piece leaves it as it is, also where `feed` clears. So what `feed` emptied, and is not marked, takes no piece until `next` is asked
+  pub empty : (buffer : Buffer) → fedBuffer buffer [] .drained ≡ buffer .drained
+  pub emptied-refused : (buffer : Buffer) (piece : List ℕ) → buffer .drained ≡ false → 0 < length piece
+      → gatewayAnswer (fedBuffer buffer []) piece ≡ refused notDrained
