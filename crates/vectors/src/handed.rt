@@ -4,8 +4,7 @@ use crate::says;
 use decoder::Decoder;
 use decoder::Taken;
 
-fn state(rpos: usize, wpos: usize, drained: bool) -> Decoder {
-    let buf = [0u8; 512];
+fn state(buf: [u8; 512], rpos: usize, wpos: usize, drained: bool) -> Decoder {
     Decoder {
         buf,
         rpos,
@@ -42,11 +41,29 @@ fn shown(what: &[u8], handed: Decoder) {
 }
 
 pub(crate) fn states() {
-    shown(b"drained, 109 unread", state(0, 109, true));
-    shown(b"drained, 109 unread at the end", state(403, 512, true));
-    shown(b"drained, 110 unread", state(0, 110, true));
-    shown(b"not drained, 110 unread", state(0, 110, false));
-    shown(b"not drained, none unread", state(5, 5, false));
-    shown(b"not drained, write position 513", state(0, 513, false));
-    shown(b"not drained, read position past it", state(2, 1, false));
+    let zeros = [0u8; 512];
+    let mut framed = zeros;
+    framed[0] = 2;
+    framed[1] = 1;
+    framed[2] = 129;
+    framed[3] = 129;
+    framed[4] = 169;
+    framed[5] = 3;
+    shown(b"drained, a whole frame unread", state(framed, 0, 6, true));
+    shown(b"drained, 109 unread", state(zeros, 0, 109, true));
+    shown(
+        b"drained, 109 unread at the end",
+        state(zeros, 403, 512, true),
+    );
+    shown(b"drained, 110 unread", state(zeros, 0, 110, true));
+    shown(b"not drained, 110 unread", state(zeros, 0, 110, false));
+    shown(b"not drained, none unread", state(zeros, 5, 5, false));
+    shown(
+        b"not drained, write position 513",
+        state(zeros, 0, 513, false),
+    );
+    shown(
+        b"not drained, read position past it",
+        state(zeros, 2, 1, false),
+    );
 }
