@@ -4,7 +4,7 @@ use mathlib.Core.List.{List, [], _++_}
 use mathlib.Core.Bool.{Bool, true, false, cond, true≢false}
 use Prim.Native.Nat.{ℕ, _+_, _-_, _<_, _≤_}
 use native.Mathlib.Omega.{arith}
-use native.Mathlib.Nat.{le-refl, zero-add}
+use native.Mathlib.Nat.{zero-add}
 use borrow.Author.Tests.{ltb-false, lt-ltb, le-ltb, eq-eqb, ne-eqb, eqb-true}
 use lib.Dec.{ltb, eqb}
 use lib.ListN.{length, take, length-append}
@@ -60,7 +60,7 @@ unfolding moved
 moved-fits n buffer fits = by (ltb (512 - buffer .wpos) n)
   where
     by : (b : Bool) → Fits (cond b (atFront buffer) buffer)
-    by true = record { low = le-refl _; high = omega (arith, fits .low, fits .high); few = fits .few }
+    by true = record { low = omega arith; high = omega (arith, fits .low, fits .high); few = λ q. omega (arith, fits .few q) }
     by false = fits
 
 emptied-fits : (buffer : Buffer) → Fits buffer → Fits (emptied buffer)
