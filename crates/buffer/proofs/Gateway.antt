@@ -9,12 +9,17 @@ use borrow.Author.Tests.{ltb-false, ne-eqb, eqb-false}
 use lib.Dec.{ltb, eqb}
 use lib.ListN.{length, take}
 use lib.Seq.{take-length}
-use Rattle.refusals.specs.Refusals.{ok, refused, notDrained}
+use Rattle.refusals.specs.Refusals.{Refusal, ok, refused, notDrained}
 use Rattle.refusals.specs.Answers.{placeOr}
+use Rattle.refusals.proofs.Different.{none}
 use Rattle.buffer.specs.Buffer.{Buffer, atFront, moved, emptied, fitting, copied, feedCount, fedBuffer, gatewayAnswer, gatewayCount, gatewayBuffer}
 use Rattle.buffer.specs.Gateway.{NeverClears, GatewayFeed}
 use Rattle.buffer.proofs.Figures.{capped, capped-under}
 use Rattle.buffer.proofs.Feeding.{Fits, moved-fits, copied-fits, moved-when, moved-same, emptied-not, mark-off, taken}
+
+-- a count is no refusal
+different : {A : Type 0} {count : ℕ} {why : Refusal} → ok count ≡ refused why → A
+different e = none (cc)
 
 -- ---- by the tests that a program makes
 
@@ -38,6 +43,15 @@ module _ (buffer : Buffer) (piece : List ℕ) where
     pub gateway-refuses : buffer .drained ≡ false → (gatewayAnswer buffer piece ≡ refused notDrained) × (gatewayBuffer buffer piece ≡ buffer)
     unfolding gatewayAnswer gatewayBuffer
     gateway-refuses e = (simp (some, e), simp (some, e))
+
+  -- Refused is a nonempty piece in a buffer that is not drained, and no other.
+  gateway-why : gatewayAnswer buffer piece ≡ refused notDrained → (0 < length piece) × (buffer .drained ≡ false)
+  gateway-why e = by (eqb (length piece) 0) refl (buffer .drained) refl
+    where
+      by : (a : Bool) → eqb (length piece) 0 ≡ a → (b : Bool) → buffer .drained ≡ b → (0 < length piece) × (b ≡ false)
+      by true f b m = different (sym (gateway-empty f .0) ∙ e)
+      by false f true m = different (sym (gateway-takes f m .0) ∙ e)
+      by false f false m = let apart : length piece ≡ 0 → ⊥ = eqb-false _ _ f in (omega arith, refl)
 
   -- ---- what it may do
 
@@ -134,7 +148,10 @@ gateway-feed =
     record {
       drained = never-clears;
       empty = λ buffer. gateway-empty buffer [] refl;
-      not-drained = λ buffer piece m some. gateway-refuses buffer piece (ne-eqb (length piece) 0 (λ q. omega arith)) m;
+      not-drained = λ buffer piece. (gateway-why buffer piece, λ (some, m). gateway-refuses buffer piece (ne-eqb (length piece) 0 (λ q. omega arith)) m .0);
+      nothing-changed = λ buffer piece e.
+          let why = gateway-why buffer piece e in
+          gateway-refuses buffer piece (ne-eqb (length piece) 0 (λ q. omega (arith, why .0))) (why .1) .1;
       keeps = gateway-keeps;
       none-cleared = gateway-cleared;
     }

@@ -45,5 +45,5 @@ mark =
       feed = λ buffer piece some. fed-mark buffer piece ∙ mark-off (length piece) _ some;
       gateway-feed = gateway-off;
       empty = λ buffer. fed-mark buffer [];
-      emptied-refused = λ buffer piece m some. gateway-feed .not-drained (fedBuffer buffer []) piece (fed-mark buffer [] ∙ m) some .0;
+      emptied-refused = λ buffer piece m some. gateway-feed .not-drained (fedBuffer buffer []) piece .1 (some, fed-mark buffer [] ∙ m);
     }

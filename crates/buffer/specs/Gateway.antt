@@ -3,6 +3,7 @@
 use mathlib.Core.Path.{_≡_}
 use mathlib.Core.Bool.{true, false, not}
 use mathlib.Core.List.{List, [], _++_}
+use mathlib.Core.Logic.{_↔_}
 use Prim.Native.Nat.{ℕ, _<_, _≤_}
 use lib.ListN.{length, take}
 use Rattle.refusals.specs.Refusals.{ok, refused, notDrained}
@@ -27,8 +28,8 @@ pub record GatewayFeed : Type 0 where
   -- "An empty piece returns 0 and changes nothing", in any state
   pub empty : (buffer : Buffer) → (gatewayAnswer buffer [] ≡ ok 0) × (gatewayBuffer buffer [] ≡ buffer)
   -- "15 NotDrained, exactly for a nonempty piece in any other state, nothing changed"
-  pub not-drained : (buffer : Buffer) (piece : List ℕ) → buffer .drained ≡ false → 0 < length piece
-      → (gatewayAnswer buffer piece ≡ refused notDrained) × (gatewayBuffer buffer piece ≡ buffer)
+  pub not-drained : (buffer : Buffer) (piece : List ℕ) → (gatewayAnswer buffer piece ≡ refused notDrained) ↔ ((0 < length piece) × (buffer .drained ≡ false))
+  pub nothing-changed : (buffer : Buffer) (piece : List ℕ) → gatewayAnswer buffer piece ≡ refused notDrained → gatewayBuffer buffer piece ≡ buffer
   -- In every case what was unread still is, with what was taken behind it, and nothing is cleared
   pub keeps : (buffer : Buffer) (piece : List ℕ) → gatewayBuffer buffer piece .unread ≡ buffer .unread ++ take (gatewayCount buffer piece) piece
   pub none-cleared : (buffer : Buffer) (piece : List ℕ) → gatewayBuffer buffer piece .cleared ≡ buffer .cleared

@@ -39,7 +39,7 @@ fieldsBuffer d =
     }
 
 -- "A state no calls can make, its read position past its write position or that one past 512, is taken as a fresh one". Document 02, W12: "A state marked
--- drained with over 109 bytes unread joins those taken as fresh"
+-- drained with over 109 bytes unread joins those taken as fresh", and besides, "for a state handed in the mark decides"
 unfoldable pub bufferOf : Decoder → Buffer
 bufferOf d =
     cond (ltb capacity (d .wpos)) fresh

@@ -1,6 +1,6 @@
 // The numbers of the format, each named once: ids, the bytes and sizes of a frame, the rooms of names, the bits
 // of masks, what a decoder holds. Ports `CommandId` and the constants of src/command.rs and src/decoder.rs.
-// specs/Format.antt has the same numbers from document 01; the contract of `named` holds the two together.
+// specs/Format.antt has the same numbers from documents 01 and 02; the contract of `named` holds the two together.
 ghost use mathlib.Core.Path.{_≡_};
 ghost use Rattle.format.specs.Format.{numbers};
 

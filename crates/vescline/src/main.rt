@@ -6,6 +6,7 @@ mod waiting;
 
 use decoder::Decoder;
 use decoder::Taken;
+use libc::STDERR_FILENO;
 use libc::STDIN_FILENO;
 
 // The decoder, and how many bytes of text wait to be written; `ok` is false once reading or writing failed.
@@ -41,11 +42,15 @@ fn asked(line: Line, text: &mut [u8]) -> Line {
     Line { decoder, used, ok }
 }
 
-// How many bytes were taken. None is refused here: `asked` leaves a drained decoder.
+// How many bytes were taken.
 fn taken_count(answer: Taken) -> usize {
     match answer {
         Taken::Bytes(count) => count,
-        Taken::Refused(_) => 0,
+        // Never so: `asked` leaves a drained decoder.
+        Taken::Refused(_) => {
+            io::write_all(STDERR_FILENO, b"vescline: bytes refused: not drained\n");
+            0
+        }
     }
 }
 
