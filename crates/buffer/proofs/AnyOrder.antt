@@ -5,6 +5,8 @@ use mathlib.Core.Bool.{Bool, true}
 use Prim.Native.Nat.{ℕ, _+_}
 use lib.ListN.{take}
 use Rattle.stream.specs.Reading.{notYet, Judge, Steady, readAll, repliesOf, joined}
+use Rattle.stream.specs.Lateness.{ToldBefore, InTime}
+use Rattle.stream.proofs.Lateness as lateness
 use Rattle.stream.proofs.Turns.{by-reading, idle, at-good-frame, at-noise}
 use Rattle.buffer.specs.Runs.{Calls, Asked, ends, gives, Run, starts, offers, asks, recuts, AnyOrder, begins, feeds, gives-one, gives-none, cuts-anew}
 use Rattle.buffer.proofs.Runs.{offer-front, Searches, Comes, comes-by, comes-on, nothing-comes, reply-comes, nothing-more}
@@ -119,3 +121,7 @@ module _ {R : Type 0} (judge : Judge R) (steady : Steady judge) where
 
       pub any-unread : unread s ≡ readAll judge taken .rest
       any-unread = all-comes .same-rest 0
+
+      -- "A good frame overlapped by no earlier frame of that reading is given"
+      pub any-in-time : (late : ℕ) → ToldBefore judge late → InTime judge late (joined pieces) taken replies
+      any-in-time late before = lateness.in-time judge steady late before (joined pieces) taken (joined ahead) replies (any-front order) any-replies

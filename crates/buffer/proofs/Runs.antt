@@ -6,16 +6,16 @@ use Prim.Native.Nat.{ℕ, zero, suc, _+_, _<_, _≤_}
 use native.Mathlib.Omega.{arith}
 use lib.ListN.{length, take, drop, length-append, length-drop, take-append-drop}
 use lib.Seq.{drop-nil}
-use Rattle.stream.specs.Reading.{good, notYet, Judge, Reading, Steady, Bounded, stops, readFrom, readAll, repliesOf, joined}
-use Rattle.stream.specs.Lateness.{NoneOver}
+use Rattle.stream.specs.Reading.{notYet, Judge, Reading, Steady, stops, readFrom, readAll, repliesOf, joined}
+use Rattle.stream.specs.Lateness.{ToldBefore, InTime}
 use Rattle.stream.specs.Searching.{Search, found, nothing, search}
 use Rattle.stream.proofs.Turns.{idle}
-use Rattle.stream.proofs.Frames.{replies-append, reply-given}
+use Rattle.stream.proofs.Frames.{replies-append}
 use Rattle.stream.proofs.Joined.{behind, unreadPlace, reading-joined}
 use Rattle.stream.proofs.Search.{readOn, found-fewer, nothing-waits, search-reading}
-use Rattle.stream.proofs.Lateness.{TakenIn, given-in-time, given-stays}
+use Rattle.stream.proofs.Lateness as lateness
 use Rattle.buffer.specs.Runs.{Calls, again, EachPiece, Asked, ends, gives}
-use Rattle.buffer.specs.Runs.{Run, starts, offers, asks, recuts, Answers, a-reply, no-reply, AskingEnds, asking, Ends, all-taken, offering, GivenSoFar}
+use Rattle.buffer.specs.Runs.{Run, starts, offers, asks, recuts, Answers, a-reply, no-reply, AskingEnds, asking, Ends, all-taken, offering}
 
 -- What is ahead is what was not taken, and the pieces behind it.
 joined-again : (left : List ℕ) (ahead : List (List ℕ)) → joined (again left ahead) ≡ left ++ joined ahead
@@ -145,17 +145,6 @@ module _ {R : Type 0} (judge : Judge R) (steady : Steady judge) (calls : Calls R
   pub nothing-more : {s t : calls .State} → calls .GivesNothing s t → judge (unread t) ≡ notYet
   nothing-more {s} {t} none = let f = next .nothing none in nothing-waits judge steady (unread s) (f .0) (unread t) (f .1)
 
--- In time, from what is taken, what is ahead and the replies: the frame, good by its own n bytes, stands at p of the stream; its own last byte is taken,
--- and bound - 1 bytes counted from its first are.
-pub given-so-far : {R : Type 0} (judge : Judge R) (steady : Steady judge) (bound : ℕ) → Bounded judge bound → (stream taken ahead : List ℕ) (replies : List R)
-    → stream ≡ taken ++ ahead → replies ≡ repliesOf (readAll judge taken .frames) → (p n : ℕ) (reply : R)
-    → judge (take n (drop p stream)) ≡ good n reply → NoneOver p (readAll judge stream .frames) → p + n ≤ length taken → TakenIn bound p taken
-    → GivenSoFar p n reply (readAll judge stream .frames) replies
-unfolding given-stays
-given-so-far judge steady bound bounded stream taken ahead replies f same p n reply stands clear own enough =
-    let a = given-in-time judge steady bound bounded taken ahead p n reply (rw f at stands) (rw f at clear) own enough in
-    rw f (record { frame = given-stays judge steady taken ahead p n reply a; later = repliesOf (a .after); exactly = same ∙ reply-given a })
-
 module _ {R : Type 0} (judge : Judge R) (steady : Steady judge) (calls : Calls R) (unread : calls .State → List ℕ) (Ready : calls .State → Type 0)
     (faithful : Faithful judge calls unread Ready) where
   -- A run is ready for the next piece.
@@ -189,11 +178,8 @@ module _ {R : Type 0} (judge : Judge R) (steady : Steady judge) (calls : Calls R
     run-unread = run-comes run .same-rest 0
 
     -- "A good frame overlapped by no earlier frame of that reading is given"
-    pub in-time : (bound : ℕ) → Bounded judge bound → (p n : ℕ) (reply : R)
-        → judge (take n (drop p (joined pieces))) ≡ good n reply → NoneOver p (readAll judge (joined pieces) .frames)
-        → p + n ≤ length taken → TakenIn bound p taken
-        → GivenSoFar p n reply (readAll judge (joined pieces) .frames) replies
-    in-time bound bounded = given-so-far judge steady bound bounded (joined pieces) taken (joined ahead) replies (run-front run) run-replies
+    pub in-time : (late : ℕ) → ToldBefore judge late → InTime judge late (joined pieces) taken replies
+    in-time late before = lateness.in-time judge steady late before (joined pieces) taken (joined ahead) replies (run-front run) run-replies
 
     -- An offer takes a byte or more.
     pub takes-some : {t : calls .State} {n : ℕ} (piece : List ℕ) → 0 < length piece → calls .Feeds s piece n t → 0 < n
@@ -206,6 +192,20 @@ run-plain (starts first) = starts first
 run-plain (offers run may feeds asked) = offers (run-plain run) may feeds asked
 run-plain (asks never run asked) = absurd never
 run-plain (recuts other never run same) = absurd never
+
+-- A run of some pieces is the beginning of a run of these and more.
+again-more : (left : List ℕ) (ahead more : List (List ℕ)) → again left (ahead ++ more) ≡ again left ahead ++ more
+again-more [] ahead more = refl
+again-more (byte ∷ left) ahead more = refl
+
+pub run-more : {R : Type 0} {calls : Calls R} {pieces ahead : List (List ℕ)} {taken : List ℕ} {replies : List R} {s : calls .State} (more : List (List ℕ))
+    → Run calls ⊥ pieces ahead taken replies s → Run calls ⊥ (pieces ++ more) (ahead ++ more) taken replies s
+run-more more (starts first) = starts first
+run-more {calls = calls} {pieces} {s = s} more (offers {ahead} {piece} {taken} {replies} {new} {n = n} run may feeds asked) =
+    subst (λ (l : List (List ℕ)). Run calls ⊥ (pieces ++ more) l (taken ++ take n piece) (replies ++ new) s) (again-more (drop n piece) ahead more)
+    (offers (run-more more run) may feeds asked)
+run-more more (asks never run asked) = absurd never
+run-more more (recuts other never run same) = absurd never
 
 -- Where asking ends there are replies that it ends with.
 pub asked-of : {R : Type 0} {calls : Calls R} {s : calls .State} → AskingEnds calls s → (replies : List R) × (u : calls .State) × Asked calls s replies u

@@ -6,8 +6,7 @@ use mathlib.Core.Path.{_≡_}
 use mathlib.Core.Bool.{Bool, true, false}
 use Prim.Native.Nat.{ℕ, _+_, _-_, _<_}
 use lib.ListN.{length, take, drop}
-use Rattle.stream.specs.Reading.{FrameAt, repliesOf, joined}
-use Rattle.stream.specs.Lateness.{GivenAt}
+use Rattle.stream.specs.Reading.{joined}
 
 -- a decoder that replies with an R; the second state is the one handed back
 pub record Calls (R : Type 0) : Type 1 where
@@ -143,10 +142,3 @@ module _ {R : Type 0} (calls : Calls R) (unread : calls .State → List ℕ) whe
         → Reached totals s → calls .Gives s n reply t → Reached (withNext n (held s) (held t) totals) t
     by-nothing : {totals : Totals} {s t : calls .State}
         → Reached totals s → calls .GivesNothing s t → Reached (withNext 0 (held s) (held t) totals) t
-
--- the reply of the frame of n bytes at p is among the replies, at its place in the reading of the uncut stream: behind
--- those of the frames that the reading gives before it
-pub record GivenSoFar {R : Type 0} (p n : ℕ) (reply : R) (uncut : List (FrameAt R)) (replies : List R) : Type 0 where
-  pub frame : GivenAt p n reply uncut
-  pub later : List R
-  pub exactly : replies ≡ repliesOf (frame .before) ++ reply ∷ later

@@ -1,18 +1,18 @@
 -- Demand 3 and the line figures, of every run of the decoder. The words are in `vesc/specs/Demands.antt`; crate `buffer` shows the same over any
--- decoder that loses nothing. Here it is said of whole `CommandReply` values, with document 01's 110 bytes.
+-- decoder that loses nothing. Here it is said of whole `CommandReply` values, with the 107 bytes of document 02's W13.
 use mathlib.Core.Path.{_≡_, refl, sym, ap, _∙_}
 use mathlib.Core.List.{List, [], _∷_, _++_, append-nil}
 use mathlib.Core.Bool.{Bool, true}
 use mathlib.Core.Logic.{inl, inr}
-use Prim.Native.Nat.{ℕ, _+_, _<_, _≤_}
+use Prim.Native.Nat.{ℕ, _+_, _<_}
 use native.Mathlib.Omega.{arith}
-use lib.ListN.{length, take, drop}
-use Rattle.stream.specs.Reading.{good, readAll, repliesOf, joined}
-use Rattle.stream.specs.Lateness.{NoneOver}
+use lib.ListN.{length}
+use Rattle.stream.specs.Reading.{readAll, repliesOf, joined}
+use Rattle.stream.specs.Lateness.{InTime}
 use Rattle.buffer.specs.Buffer.{atMost, top}
 use Rattle.refusals.specs.Refusals.{ok}
 use Rattle.buffer.specs.Runs as runs
-use Rattle.buffer.specs.Runs.{EachPiece, Nonempty, GivenSoFar, Totals}
+use Rattle.buffer.specs.Runs.{EachPiece, Nonempty, Totals}
 use Rattle.buffer.proofs.AnyOrder as any-order
 use Rattle.buffer.proofs.Gateway.{never-clears}
 use Rattle.buffer.proofs.Runs as any-decoder
@@ -27,7 +27,8 @@ use Rattle.decoder.specs.Judge.{decodeJudge}
 use Rattle.decoder.specs.State.{bufferOf, heldOf, figuresOf, FeedIs, takenAnswer, GatewayFeedIs}
 use Rattle.decoder.specs.Runs.{calls, Run, PlainRun, Ends, InUse, gatewayCalls, GatewayRun, PlainGatewayRun, GatewayEnds, GatewayReached, Reached, figuresBy}
 use Rattle.decoder.specs.Gateway.{GatewayLaws}
-use Rattle.decoder.proofs.Judging.{decode-steady, decode-bounded}
+use Rattle.decoder.proofs.Judging.{decode-steady}
+use Rattle.decoder.proofs.Lateness.{decode-told-before}
 use Rattle.decoder.proofs.Runs.{unread, Waits, faithful, able, telling, fits, figures-told, reached-either, reached-sound}
 use Rattle.decoder.proofs.GatewayRuns.{marked, Drained, gateway-faithful, gateway-keeping, gateway-able, any-mark, reached-cleared}
 use Rattle.decoder.proofs.States.{marked-buffer}
@@ -40,11 +41,8 @@ module _ {pieces ahead : List (List ℕ)} {taken : List ℕ} {replies : List Com
   pub run-unread : bufferOf d .unread ≡ readAll decodeJudge taken .rest
   run-unread = any-decoder.run-unread decodeJudge decode-steady calls unread Waits faithful run
 
-  pub in-time : (p n : ℕ) (reply : CommandReply)
-      → decodeJudge (take n (drop p (joined pieces))) ≡ good n reply → NoneOver p (readAll decodeJudge (joined pieces) .frames)
-      → p + n ≤ length taken → p + 109 ≤ length taken
-      → GivenSoFar p n reply (readAll decodeJudge (joined pieces) .frames) replies
-  in-time = any-decoder.in-time decodeJudge decode-steady calls unread Waits faithful run 110 decode-bounded
+  pub in-time : InTime decodeJudge 107 (joined pieces) taken replies
+  in-time = any-decoder.in-time decodeJudge decode-steady calls unread Waits faithful run 107 decode-told-before
 
   pub takes-some : (piece : List ℕ) (fed : Fed) → 0 < length piece → FeedIs d piece fed → 0 < fed .count
   takes-some piece fed some is = any-decoder.takes-some decodeJudge decode-steady calls unread Waits faithful run piece some is
@@ -102,12 +100,8 @@ module _ {pieces ahead : List (List ℕ)} {taken : List ℕ} {replies : List Com
   pub gateway-unread : bufferOf d .unread ≡ readAll decodeJudge taken .rest
   gateway-unread = any-order.any-unread decodeJudge decode-steady gatewayCalls unread marked gateway-keeping run mark
 
-  pub gateway-in-time : (p n : ℕ) (reply : CommandReply)
-      → decodeJudge (take n (drop p (joined pieces))) ≡ good n reply → NoneOver p (readAll decodeJudge (joined pieces) .frames)
-      → p + n ≤ length taken → p + 109 ≤ length taken
-      → GivenSoFar p n reply (readAll decodeJudge (joined pieces) .frames) replies
-  gateway-in-time =
-      any-decoder.given-so-far decodeJudge decode-steady 110 decode-bounded (joined pieces) taken (joined ahead) replies (any-order.any-front run) gateway-replies
+  pub gateway-in-time : InTime decodeJudge 107 (joined pieces) taken replies
+  gateway-in-time = any-order.any-in-time decodeJudge decode-steady gatewayCalls unread marked gateway-keeping run mark 107 decode-told-before
 
   pub gateway-ends : GatewayEnds ahead d
   gateway-ends = any-decoder.ready-ends decodeJudge decode-steady gatewayCalls unread Drained gateway-faithful gateway-able mark
@@ -128,10 +122,13 @@ any-pieces : (pieces : List (List ℕ)) → EachPiece (λ piece. Unit) pieces
 any-pieces [] = tt
 any-pieces (piece ∷ pieces) = (tt, any-pieces pieces)
 
+pub gateway-runs-whole : (pieces : List (List ℕ)) → (replies : List CommandReply) × (d : Decoder) × runs.Run gatewayCalls ⊥ pieces [] (joined pieces) replies d
+gateway-runs-whole pieces = any-decoder.runs-whole decodeJudge decode-steady gatewayCalls unread Drained gateway-faithful gateway-able pieces (any-pieces pieces)
+
 pub gateway-exists : (pieces : List (List ℕ))
     → (replies : List CommandReply) × (d : Decoder) × PlainGatewayRun pieces [] (joined pieces) replies d × (d .drained ≡ true)
 gateway-exists pieces =
-    let whole = any-decoder.runs-whole decodeJudge decode-steady gatewayCalls unread Drained gateway-faithful gateway-able pieces (any-pieces pieces) in
+    let whole = gateway-runs-whole pieces in
     let order = gateway-in-turn (whole .2) in
     (whole .0, whole .1, order .0, order .1)
 

@@ -7,7 +7,7 @@ use mathlib.Core.Logic.{⊎-elim}
 use denote.Enum.Declared.{tagOf}
 use types.Run.{OneOf}
 use lib.ListN.{length, getD}
-use Rattle.refusals.specs.Refusals.{Answer, ok, refused, incompleteData, invalidFrame, decodeRefusal}
+use Rattle.refusals.specs.Refusals.{Refusal, Answer, ok, refused, incompleteData, invalidFrame, decodeRefusal}
 use Rattle.refusals.proofs.DecodeError.{the-type}
 use Rattle.refusals.specs.declared.DecodeError.{DecodeError}
 use Rattle.refusals.specs.declared.DecodeError.the-variants.{IncompleteData, InvalidFrame, UnknownPacket, ChecksumMismatch}
@@ -16,11 +16,15 @@ use Rattle.judge.specs.Judge.{judgeOf}
 use Rattle.refusals.specs.declared.Consumed.{Consumed}
 use Rattle.refusals.specs.declared.Consumed.the-variants.{To, Refused}
 use Rattle.judge.proofs.Order.{no-start, start-wrong}
+use Rattle.judge.proofs.ResetStats.{frame-good}
+use Rattle.packer.specs.Numbers.{beAt}
+use Rattle.frame.specs.Frame.{declared, payloadIn}
 use Rattle.reply.specs.declared.CommandReply.{CommandReply}
+use Rattle.reply.specs.Reply.{replyOf}
 use Rattle.reply.specs.Decode.{Decode, replyIn, replyBy, decodeOf}
 use Rattle.reply.proofs.Prefix.{decode-prefix, decode-full, decode-sized}
 use Rattle.stream.specs.Reading.{good, notYet, movesOn, Steady, Bounded}
-use Rattle.stream.proofs.Judging.{judged-good, judged-waits, judged-moves, judge-steady, judge-bounded}
+use Rattle.stream.proofs.Judging.{judged-good, judged-waits, judged-moves, waits-answer, good-answer, judge-steady, judge-bounded}
 use Rattle.decoder.specs.Judge.{decodeJudge}
 
 abbrev answer : List ℕ → Answer ℕ
@@ -56,10 +60,28 @@ pub decode-waits : (l : List ℕ) → judgeOf l ≡ refused incompleteData → d
 unfolding decodeJudge decodeOf
 decode-waits l e = judged-waits answer reply l e
 
+-- and what a verdict tells of the judgement
+pub waits-judged : (l : List ℕ) → decodeJudge l ≡ notYet → judgeOf l ≡ refused incompleteData
+unfolding decodeJudge decodeOf
+waits-judged l e = waits-answer answer reply l e
+
+pub good-judged : (l : List ℕ) (n : ℕ) (r : CommandReply) → decodeJudge l ≡ good n r → judgeOf l ≡ ok n
+unfolding decodeJudge decodeOf
+good-judged l n r e = good-answer answer reply l n r e
+
+-- bytes refused for something else are moved over
+pub decode-moves : (l : List ℕ) (why : Refusal) → judgeOf l ≡ refused why → (why .number ≡ 1 → ⊥) → decodeJudge l ≡ movesOn
+unfolding decodeJudge decodeOf
+decode-moves l why e other = judged-moves answer reply l why e other
+
 -- a byte that starts no frame is moved over
 pub decode-noise : (l : List ℕ) → 0 < length l → (getD l 0 0 ≡ 2 → ⊥) → decodeJudge l ≡ movesOn
-unfolding decodeJudge decodeOf
-decode-noise l some differs = judged-moves answer reply l invalidFrame (sym (start-wrong l some differs)) (λ e. omega arith)
+decode-noise l some differs = decode-moves l invalidFrame (sym (start-wrong l some differs)) (λ e. omega arith)
+
+-- the frame of ResetStats
+pub reset-stats : decodeJudge (2 ∷ 1 ∷ 129 ∷ 129 ∷ 169 ∷ 3 ∷ []) ≡ good 6 (replyOf (129 ∷ []))
+unfolding replyIn payloadIn declared beAt
+reset-stats = decode-good (2 ∷ 1 ∷ 129 ∷ 129 ∷ 169 ∷ 3 ∷ []) 6 frame-good
 
 -- ---- by what `judge` returns
 
@@ -81,5 +103,4 @@ module _ (l : List ℕ) (a : Consumed) (answers : consumed a ≡ judgeOf l) wher
   answer-waits e = decode-waits l (sym answers ∙ ap consumed e)
 
   pub answer-moves : (error : DecodeError) → a ≡ Refused error → Other error → decodeJudge l ≡ movesOn
-  unfolding decodeJudge decodeOf
-  answer-moves error e other = judged-moves answer reply l (decodeRefusal error) (sym answers ∙ ap consumed e) (other-number error other)
+  answer-moves error e other = decode-moves l (decodeRefusal error) (sym answers ∙ ap consumed e) (other-number error other)

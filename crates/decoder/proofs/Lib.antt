@@ -5,5 +5,7 @@ pub mod Unique
 pub mod Runs
 pub mod Gateway
 pub mod GatewayRuns
+pub mod Lateness
 pub mod DemandThree
+pub mod NoSooner
 pub mod OldLoss

@@ -6,9 +6,7 @@ use mathlib.Core.List.{List, [], _∷_}
 use Prim.Native.Nat.{ℕ}
 use native.Mathlib.Omega.{arith}
 use lib.ListN.{length}
-use Rattle.packer.specs.Numbers.{beAt}
-use Rattle.frame.specs.Frame.{declared, payloadIn}
-use Rattle.judge.proofs.ResetStats.{front-waits, frame-good}
+use Rattle.judge.proofs.ResetStats.{front-waits}
 use Rattle.stream.specs.Reading.{movesOn, stops, readAll}
 use Rattle.stream.proofs.Turns.{idle, at-noise}
 use Rattle.buffer.specs.Buffer.{Buffer, feedCount, fedBuffer, gatewayCount, gatewayBuffer}
@@ -18,13 +16,12 @@ use Rattle.buffer.proofs.Nexts.{next-wpos, next-mark}
 use Rattle.buffer.proofs.Loss.{Cut, Feeding, read-whole, lost, kept}
 use Rattle.buffer.proofs.Balance.{reached-tells}
 use Rattle.reply.specs.Reply.{replyOf}
-use Rattle.reply.specs.Decode.{replyIn}
 use Rattle.decoder.specs.declared.Decoder.{Decoder}
 use Rattle.decoder.specs.Judge.{decodeJudge}
 use Rattle.decoder.specs.Runs.{callsBy, FeedTakes, GatewayTakes, EitherTakes, gatewayCalls, figuresBy}
 use Rattle.decoder.specs.State.{bufferOf, figuresOf}
 use Rattle.decoder.specs.OldLoss.{oldLost, anyCalls, OldLoss, NoLoss}
-use Rattle.decoder.proofs.Judging.{decode-steady, decode-good, decode-waits, decode-noise}
+use Rattle.decoder.proofs.Judging.{decode-steady, decode-waits, decode-noise, reset-stats}
 use Rattle.decoder.proofs.Runs.{unread, next-searches, next-answers, feed-answers, a-fresh-one, telling, reached-either, figures-told}
 use Rattle.decoder.proofs.GatewayRuns.{gateway-answers}
 
@@ -41,13 +38,12 @@ rest-alone =
     ∙ idle decodeJudge decode-steady 3 [] (decode-steady .empty)
 
 cut : Cut decodeJudge 509 0 oldLost (129 ∷ 169 ∷ 3 ∷ []) (replyOf (129 ∷ []))
-unfolding replyIn payloadIn declared beAt
 cut =
     record {
       quiet = λ l. noise 0 l (λ e. omega arith);
       full = refl;
       waits = decode-waits oldLost front-waits;
-      stands = decode-good (2 ∷ 1 ∷ 129 ∷ 129 ∷ 169 ∷ 3 ∷ []) 6 frame-good;
+      stands = reset-stats;
       short = omega arith;
       useless = rest-alone;
     }

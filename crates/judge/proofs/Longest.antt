@@ -20,7 +20,7 @@ use Rattle.layout.specs.Replies.{fwVersion, getValues, selective, setupSelectiv
 use Rattle.layout.proofs.Readers.{Lawful, reads}
 use Rattle.judge.specs.Judge.{byteAt, payloadPart, judgeSumOf, finishOf, judgeOf}
 use Rattle.judge.specs.Longest.{Longest, LongestFrames}
-use Rattle.judge.proofs.Full.{judge-full}
+use Rattle.judge.proofs.Full.{judge-full, judge-full-others}
 use Rattle.judge.proofs.Parts.{judge-frame}
 
 -- an id whose fields take so many bytes at the most has frames of six more
@@ -65,4 +65,5 @@ longest-frames =
       stats = one-as-long (128 ∷ replicate 4 255 ++ replicate 44 0) (tt {0}) refl refl (none-longer _ _ (reads getStats));
       reset-stats = one-as-long (129 ∷ []) (tt {0}) refl refl (none-longer _ _ (reads resetStats));
       enough = judge-full;
+      enough-for-others = judge-full-others;
     }

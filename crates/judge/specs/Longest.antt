@@ -31,3 +31,5 @@ pub record LongestFrames : Type 0 where
   pub reset-stats : Longest (idOf CommandId.ResetStats) 6
   -- "never answers 1"
   pub enough : (s : List ℕ) → 110 ≤ length s → judgeOf s ≡ refused incompleteData → ⊥
+  -- nor of 103 bytes or more, where the id is not FwVersion's
+  pub enough-for-others : (s : List ℕ) → (idByte s ≡ idOf CommandId.FwVersion → ⊥) → 103 ≤ length s → judgeOf s ≡ refused incompleteData → ⊥

@@ -7,6 +7,7 @@ use native.Mathlib.Omega.{arith}
 use lib.Dec.{T, leb, leb→le, eqb}
 use lib.Ieee.Fits.{and-l, and-r}
 use borrow.Author.Tests.{ne-eqb, eqb-false}
+use lib.ListN.{drop}
 use Rattle.refusals.specs.Refusals.{Answer, ok, refused, unknownPacket}
 use Rattle.refusals.specs.Answers.{andThen}
 use Rattle.refusals.proofs.Different.{none}
@@ -65,6 +66,13 @@ reads-in bound id (r ∷ others) all =
 pub reads-fields : (id : ℕ) → Lawful 104 (fieldsEnd id)
 unfolding fieldsEnd longest longestOf total widths takes hasBit most
 reads-fields id = reads-in 104 id replies (tt {0})
+
+-- "FwInfo 103": where the id is not FwVersion's, the fields have 97 bytes at the most
+pub reads-others : (id : ℕ) → (id ≡ 0 → ⊥) → Lawful 97 (fieldsEnd id)
+unfolding fieldsEnd layoutIn longest longestOf total widths takes hasBit most
+reads-others id differs =
+    let passed : layoutIn replies id ≡ layoutIn (drop 1 replies) id = rw (ne-eqb id 0 differs) in
+    subst (Lawful 97) (λ i s at. andThen (sym passed i) (λ layout. extent layout s at)) (reads-in 97 id (drop 1 replies) (tt {0}))
 
 -- ---- an id of a reply, or of none
 

@@ -4,10 +4,10 @@ use mathlib.Core.List.{List, [], _∷_, _++_, map-append}
 use Prim.Native.Nat.{ℕ, _+_, _≤_}
 use native.Mathlib.Omega.{arith}
 use native.Mathlib.Nat.{le-refl}
-use lib.ListN.{drop}
+use lib.ListN.{length, drop, length-append}
 use lib.Seq.{drop-drop}
 use Rattle.stream.specs.Reading.{good, Judge, FrameAt, Steady, readFrom, readAll, repliesOf}
-use Rattle.stream.specs.Lateness.{Each, GivenAt}
+use Rattle.stream.specs.Lateness.{Each, GivenAt, GivenSoFar}
 use Rattle.stream.proofs.Turns.{by-reading, idle, at-good-frame, at-noise}
 
 -- The replies of what is given first, and then of what is given behind it.
@@ -22,6 +22,10 @@ each-front P (g ∷ a) b h = (h .0, each-front P a b (h .1))
 -- The reply of a frame given is among the replies, behind those of the frames before it.
 pub reply-given : {R : Type 0} {p n : ℕ} {r : R} {frames : List (FrameAt R)} (a : GivenAt p n r frames) → repliesOf frames ≡ repliesOf (a .before) ++ r ∷ repliesOf (a .after)
 reply-given a = ap repliesOf (a .exactly) ∙ replies-append (a .before) _
+
+-- A reply given so far is not among none.
+pub not-among-none : {R : Type 0} {p n : ℕ} {r : R} {uncut : List (FrameAt R)} {replies : List R} → GivenSoFar p n r uncut replies → replies ≡ [] → ⊥
+not-among-none given empty = omega (arith, simp length-append at (ap length (sym empty ∙ given .exactly)))
 
 module _ {R : Type 0} (judge : Judge R) where
   -- frames that stand in the stream: each is good at its place, and starts at `from` or where the one before it ends, or later

@@ -61,13 +61,20 @@ module _ {R : Type 0} (answer : List ℕ → Answer ℕ) (reply : List ℕ → R
   pub judged-moves : (l : List ℕ) (why : Refusal) → answer l ≡ refused why → (why .number ≡ 1 → ⊥) → judgeBy answer reply l ≡ movesOn
   judged-moves l why e other = rw (e, ne-eqb (why .number) 1 other)
 
+  -- and what a verdict tells of the answer
+  pub waits-answer : (l : List ℕ) → judgeBy answer reply l ≡ notYet → answer l ≡ refused incompleteData
+  waits-answer l e = waits-by (answer l) (reply l) e
+
+  pub good-answer : (l : List ℕ) (n : ℕ) (r : R) → judgeBy answer reply l ≡ good n r → answer l ≡ ok n
+  good-answer l n r e = takes-by (answer l) (reply l) n r e
+
   pub judge-steady : Decodes answer reply → Steady (judgeBy answer reply)
   judge-steady d =
       record {
         prefix = λ xs ys told. let e = d .prefix xs ys (λ q. told (judged-waits xs q)) in λ i. verdictOf (e .0 i) (e .1 i);
-        sized = λ xs n r e. d .sized xs n (takes-by (answer xs) (reply xs) n r e);
+        sized = λ xs n r e. d .sized xs n (good-answer xs n r e);
         empty = judged-waits [] (d .empty);
       }
 
   pub judge-bounded : (bound : ℕ) → ((xs : List ℕ) → bound ≤ length xs → answer xs ≡ refused incompleteData → ⊥) → Bounded (judgeBy answer reply) bound
-  judge-bounded bound full = record { told = λ xs enough e. full xs enough (waits-by (answer xs) (reply xs) e) }
+  judge-bounded bound full = record { told = λ xs enough e. full xs enough (waits-answer xs e) }

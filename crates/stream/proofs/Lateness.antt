@@ -6,25 +6,26 @@ use native.Mathlib.Omega.{arith}
 use native.Mathlib.Nat.{zero-add}
 use lib.ListN.{length, take, drop, length-drop, take-append-drop}
 use lib.Seq.{drop-drop, drop-append-le, take-append-le}
-use Rattle.stream.specs.Reading.{good, notYet, movesOn, Judge, FrameAt, Steady, Bounded, readFrom, readAll}
-use Rattle.stream.specs.Lateness.{NoneOver, GivenAt}
+use Rattle.stream.specs.Reading.{good, notYet, movesOn, Judge, FrameAt, Steady, Bounded, readFrom, readAll, repliesOf}
+use Rattle.stream.specs.Lateness.{ToldBefore, NoneOver, GivenAt, InTime}
 use Rattle.stream.proofs.Turns.{by-reading, at-good-frame, at-noise, good-told, good-no-noise}
-use Rattle.stream.proofs.Frames.{each-front}
+use Rattle.stream.proofs.Frames.{each-front, reply-given}
 use Rattle.stream.proofs.Joined.{given-front, good-stands}
 
--- bound - 1 bytes, counted from the one at p, have been taken in with xs
-abbrev pub TakenIn : ℕ → ℕ → List ℕ → Type 0
-TakenIn bound p xs = p + (bound - 1) ≤ length xs
+-- Where `bound` bytes tell every start, bound - 1 bytes counted from a good frame's first tell those before it.
+pub bound-told : {R : Type 0} (judge : Judge R) (bound : ℕ) → Bounded judge bound → ToldBefore judge (bound - 1)
+bound-told judge bound bounded = record { told = λ k some l n r stands enough. bounded .told l (omega arith) }
+
+-- What is in time is so with a greater lateness too.
+pub in-time-later : {R : Type 0} (judge : Judge R) (late later : ℕ) (stream taken : List ℕ) (replies : List R) → late ≤ later
+    → InTime judge late stream taken replies → InTime judge later stream taken replies
+in-time-later judge late later stream taken replies more sooner p n r stands clear own enough = sooner p n r stands clear own (omega arith)
 
 -- at every position before p it can be told whether a good frame starts there
 abbrev Settled : {R : Type 0} → Judge R → List ℕ → ℕ → Type 0
 Settled judge xs p = (q : ℕ) → q < p → judge (drop q xs) ≡ notYet → ⊥
 
 module _ {R : Type 0} (judge : Judge R) (steady : Steady judge) where
-  -- With a bound, the bytes before p are settled as soon as bound - 1 bytes counted from the one at p have been taken in.
-  late : (bound : ℕ) → Bounded judge bound → (xs : List ℕ) (p : ℕ) → TakenIn bound p xs → Settled judge xs p
-  late bound bounded xs p h q j = bounded .told (drop q xs) (rw (length-drop q xs) (omega arith))
-
   -- what is settled stays so from m bytes further on
   settled-on : (m q : ℕ) (l : List ℕ) → m ≤ q → Settled judge l q → Settled judge (drop m l) (q - m)
   settled-on m q l h s j k = subst (λ (x : List ℕ). judge x ≡ notYet → ⊥) (sym (drop-drop j m l)) (s (m + j) (omega arith))
@@ -33,6 +34,11 @@ module _ {R : Type 0} (judge : Judge R) (steady : Steady judge) where
   good-on m q l n r h e =
       let k : m + (q - m) ≡ q = omega arith in
       ap judge (drop-drop (q - m) m l ∙ ap (λ (j : ℕ). drop j l) k) ∙ e
+
+  -- The bytes before a good frame at p are settled as soon as `late` bytes counted from its first have been taken in.
+  settled-before : (late : ℕ) → ToldBefore judge late → (xs : List ℕ) (p n : ℕ) (r : R) → judge (drop p xs) ≡ good n r → p + late ≤ length xs → Settled judge xs p
+  settled-before late before xs p n r stands enough q earlier =
+      before .told (p - q) (omega arith) (drop q xs) n r (good-on q p xs n r (omega arith) stands) (rw (length-drop q xs) (omega arith))
 
   module _ (p n : ℕ) (r : R) where
     -- what is shown of the frames given of a list l that starts at `place`: the frame stands q bytes into l, and so at p
@@ -75,7 +81,7 @@ module _ {R : Type 0} (judge : Judge R) (steady : Steady judge) where
   given-where-settled xs p n r stands s h = claim p n r 0 xs p (zero-add p) stands s h
 
   -- What was given stays given when bytes are appended.
-  unfoldable pub given-stays : (xs ys : List ℕ) (p n : ℕ) (r : R) → GivenAt p n r (readAll judge xs .frames) → GivenAt p n r (readAll judge (xs ++ ys) .frames)
+  unfoldable given-stays : (xs ys : List ℕ) (p n : ℕ) (r : R) → GivenAt p n r (readAll judge xs .frames) → GivenAt p n r (readAll judge (xs ++ ys) .frames)
   given-stays xs ys p n r a =
       let f = given-front judge steady xs ys in
       record { before = a .before; after = a .after ++ f .0; exactly = f .1 ∙ ap (λ (x : List (FrameAt R)). x ++ f .0) (a .exactly) ∙ append-assoc (a .before) _ (f .0); clear = a .clear }
@@ -88,16 +94,20 @@ module _ {R : Type 0} (judge : Judge R) (steady : Steady judge) where
       ap judge (sym (take-append-drop n (drop p xs)))
       ∙ good-stands judge steady (take n (drop p xs)) (drop n (drop p xs)) n r (ap judge (sym same) ∙ stands)
 
-  -- A good frame of n bytes stands at p of the uncut stream xs ++ ys, and no earlier frame of the reading of that stream reaches over its first
-  -- byte. Once its own last byte has been taken in with xs, and every byte before it is settled, the reading of xs gives it.
-  given-once-settled : (xs ys : List ℕ) (p n : ℕ) (r : R) → judge (take n (drop p (xs ++ ys))) ≡ good n r → NoneOver p (readAll judge (xs ++ ys) .frames)
-      → p + n ≤ length xs → Settled judge xs p → GivenAt p n r (readAll judge xs .frames)
-  given-once-settled xs ys p n r stands h k s =
+  -- How late is late. A good frame of n bytes stands at p of the uncut stream xs ++ ys, and no earlier frame of the reading of that stream reaches
+  -- over its first byte. Once its own last byte and `late` bytes counted from its first have been taken in with xs, the reading of xs gives it.
+  given-in-time : (late : ℕ) → ToldBefore judge late → (xs ys : List ℕ) (p n : ℕ) (r : R) → judge (take n (drop p (xs ++ ys))) ≡ good n r
+      → NoneOver p (readAll judge (xs ++ ys) .frames) → p + n ≤ length xs → p + late ≤ length xs → GivenAt p n r (readAll judge xs .frames)
+  given-in-time late before xs ys p n r stands h own enough =
       let f = given-front judge steady xs ys in
-      given-where-settled xs p n r (good-in-front xs ys p n r stands k) s (each-front _ (readAll judge xs .frames) (f .0) (subst (NoneOver p) (f .1) h))
+      let here = good-in-front xs ys p n r stands own in
+      given-where-settled xs p n r here (settled-before late before xs p n r here enough)
+      (each-front _ (readAll judge xs .frames) (f .0) (subst (NoneOver p) (f .1) h))
 
-  -- How late is late: with a bound this is so once bound - 1 bytes counted from its first, or its own last byte if that is later, have been
-  -- taken in.
-  pub given-in-time : (bound : ℕ) → Bounded judge bound → (xs ys : List ℕ) (p n : ℕ) (r : R) → judge (take n (drop p (xs ++ ys))) ≡ good n r
-      → NoneOver p (readAll judge (xs ++ ys) .frames) → p + n ≤ length xs → TakenIn bound p xs → GivenAt p n r (readAll judge xs .frames)
-  given-in-time bound bounded xs ys p n r stands h k t = given-once-settled xs ys p n r stands h k (late bound bounded xs p t)
+  -- So it is in time wherever the replies are those of the reading of what is taken.
+  pub in-time : (late : ℕ) → ToldBefore judge late → (stream taken ahead : List ℕ) (replies : List R) → stream ≡ taken ++ ahead
+      → replies ≡ repliesOf (readAll judge taken .frames) → InTime judge late stream taken replies
+  unfolding given-stays
+  in-time late before stream taken ahead replies front same p n r stands clear own enough =
+      let a = given-in-time late before taken ahead p n r (rw front at stands) (rw front at clear) own enough in
+      rw front (record { frame = given-stays taken ahead p n r a; later = repliesOf (a .after); exactly = same ∙ reply-given a })

@@ -7,3 +7,4 @@ pub mod Joined
 pub mod Search
 pub mod Seeking
 pub mod Lateness
+pub mod OneBefore
