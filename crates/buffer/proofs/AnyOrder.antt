@@ -35,6 +35,15 @@ run-any (offers run may fed asked) = asked-any (feeds (run-any run) fed) asked
 run-any (asks may run asked) = asked-any (run-any run) asked
 run-any (recuts other may run same) = cuts-anew other may (run-any run) same
 
+-- Calls whose caller cuts nothing anew are calls whose caller may.
+pub any-plain : {R : Type 0} {calls : Calls R} {pieces ahead : List (List ℕ)} {taken : List ℕ} {replies : List R} {s : calls .State}
+    → AnyOrder calls ⊥ pieces ahead taken replies s → AnyOrder calls Unit pieces ahead taken replies s
+any-plain (begins first) = begins first
+any-plain (feeds order fed) = feeds (any-plain order) fed
+any-plain (gives-one order gave) = gives-one (any-plain order) gave
+any-plain (gives-none order none) = gives-none (any-plain order) none
+any-plain (cuts-anew other never order same) = absurd never
+
 -- what is asked of the calls: `next` is one search; `feed` loses nothing, in any state; and a state that is marked is one in which nothing more can be
 -- told, unless a piece was fed since: so a mark that is there after a `feed` or a reply tells that nothing changed
 pub record Keeping {R : Type 0} (judge : Judge R) (calls : Calls R) (unread : calls .State → List ℕ) (marked : calls .State → Bool) : Type 0 where

@@ -27,6 +27,7 @@ use Rattle.decoder.specs.Judge.{decodeJudge}
 use Rattle.decoder.specs.State.{bufferOf, heldOf, figuresOf, FeedIs, takenAnswer, GatewayFeedIs}
 use Rattle.decoder.specs.Runs.{calls, Run, PlainRun, Ends, InUse, gatewayCalls, GatewayRun, PlainGatewayRun, GatewayEnds, GatewayReached, Reached, figuresBy}
 use Rattle.decoder.specs.Gateway.{GatewayLaws}
+use Rattle.decoder.specs.Lateness.{lateness}
 use Rattle.decoder.proofs.Judging.{decode-steady}
 use Rattle.decoder.proofs.Lateness.{decode-told-before}
 use Rattle.decoder.proofs.Runs.{unread, Waits, faithful, able, telling, fits, figures-told, reached-either, reached-sound}
@@ -41,8 +42,8 @@ module _ {pieces ahead : List (List ℕ)} {taken : List ℕ} {replies : List Com
   pub run-unread : bufferOf d .unread ≡ readAll decodeJudge taken .rest
   run-unread = any-decoder.run-unread decodeJudge decode-steady calls unread Waits faithful run
 
-  pub in-time : InTime decodeJudge 107 (joined pieces) taken replies
-  in-time = any-decoder.in-time decodeJudge decode-steady calls unread Waits faithful run 107 decode-told-before
+  pub in-time : InTime decodeJudge lateness (joined pieces) taken replies
+  in-time = any-decoder.in-time decodeJudge decode-steady calls unread Waits faithful run lateness decode-told-before
 
   pub takes-some : (piece : List ℕ) (fed : Fed) → 0 < length piece → FeedIs d piece fed → 0 < fed .count
   takes-some piece fed some is = any-decoder.takes-some decodeJudge decode-steady calls unread Waits faithful run piece some is
@@ -100,8 +101,8 @@ module _ {pieces ahead : List (List ℕ)} {taken : List ℕ} {replies : List Com
   pub gateway-unread : bufferOf d .unread ≡ readAll decodeJudge taken .rest
   gateway-unread = any-order.any-unread decodeJudge decode-steady gatewayCalls unread marked gateway-keeping run mark
 
-  pub gateway-in-time : InTime decodeJudge 107 (joined pieces) taken replies
-  gateway-in-time = any-order.any-in-time decodeJudge decode-steady gatewayCalls unread marked gateway-keeping run mark 107 decode-told-before
+  pub gateway-in-time : InTime decodeJudge lateness (joined pieces) taken replies
+  gateway-in-time = any-order.any-in-time decodeJudge decode-steady gatewayCalls unread marked gateway-keeping run mark lateness decode-told-before
 
   pub gateway-ends : GatewayEnds ahead d
   gateway-ends = any-decoder.ready-ends decodeJudge decode-steady gatewayCalls unread Drained gateway-faithful gateway-able mark

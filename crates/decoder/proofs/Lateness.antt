@@ -12,7 +12,7 @@ use Rattle.judge.proofs.Parts.{judge-frame}
 use Rattle.judge.proofs.Sized.{judge-sized}
 use Rattle.stream.specs.Lateness.{ToldAt, ToldBefore}
 use Rattle.decoder.specs.Judge.{decodeJudge}
-use Rattle.decoder.specs.Lateness.{ToldEarly}
+use Rattle.decoder.specs.Lateness.{lateness, ToldEarly}
 use Rattle.decoder.proofs.Judging.{decode-bounded, waits-judged, good-judged}
 
 -- One byte before a good frame, the id is that frame's length byte.
@@ -38,13 +38,13 @@ two-before l n r stands enough waits = judge-full-others l (start-is-id l n (goo
 further-before : (k : ℕ) → ToldAt decodeJudge k 110
 further-before k l n r stands enough waits = decode-bounded .told l enough waits
 
-told-before : (k : ℕ) → 0 < k → ToldAt decodeJudge k (k + 107)
+told-before : (k : ℕ) → 0 < k → ToldAt decodeJudge k (k + lateness)
 told-before zero some l n r stands enough = absurd (omega arith)
 told-before (suc zero) some l n r stands enough = one-before l n r stands (omega arith)
 told-before (suc (suc zero)) some l n r stands enough = two-before l n r stands (omega arith)
 told-before (suc (suc (suc k))) some l n r stands enough = further-before (suc (suc (suc k))) l n r stands (omega arith)
 
-pub decode-told-before : ToldBefore decodeJudge 107
+pub decode-told-before : ToldBefore decodeJudge lateness
 decode-told-before = record { told = told-before }
 
 pub told-early : ToldEarly

@@ -15,14 +15,18 @@ use Rattle.decoder.specs.declared.Decoder.{Decoder}
 use Rattle.decoder.specs.Judge.{decodeJudge}
 use Rattle.decoder.specs.Runs.{Run, PlainRun, GatewayRun, PlainGatewayRun}
 
+-- "the true number is 107"
+abbrev pub lateness : ℕ
+lateness = 107
+
 -- How long a start before a good frame can stay undecided. Only FwVersion, whose id is 0, has frames of over 103 bytes. One byte before a good
--- frame the id is that frame's length byte, which is never 0; two bytes before it, that frame's start byte, 2. A frame of FwVersion has at most 110
+-- frame the id is that frame's length byte, which is never 0; two bytes before it, that frame's start byte, 2. No frame has over 110 bytes
 pub record ToldEarly : Type 0 where
   pub one-before : ToldAt decodeJudge 1 103
   pub two-before : ToldAt decodeJudge 2 103
   pub further-before : (k : ℕ) → ToldAt decodeJudge k 110
-  -- so 107 bytes counted from the good frame's first tell every start before it: three bytes before it they are 110
-  pub before : ToldBefore decodeJudge 107
+  -- so 107 bytes counted from the good frame's first tell every start before it: from three bytes before it they are 110
+  pub before : ToldBefore decodeJudge lateness
 
 -- the frame of ResetStats, which is good
 abbrev pub lateFrame : List ℕ
@@ -54,7 +58,7 @@ pub record NoSooner : Type 0 where
   -- the same by the gateway feed
   pub gateway-nothing-yet : (d : Decoder) × PlainGatewayRun latePieces ((0 ∷ []) ∷ []) tooFew [] d × (d .drained ≡ true)
   pub gateway-then-given : (d : Decoder) × PlainGatewayRun latePieces [] (joined latePieces) (lateReply ∷ []) d × (d .drained ≡ true)
-  -- and so it is however these bytes are cut, and whatever is ahead of them
+  -- and so it is however these bytes are cut, and whatever follows them
   pub every-run : {pieces ahead : List (List ℕ)} {replies : List CommandReply} {d : Decoder} → Run pieces ahead tooFew replies d → replies ≡ []
   pub every-gateway-run : {pieces ahead : List (List ℕ)} {replies : List CommandReply} {d : Decoder}
       → GatewayRun pieces ahead tooFew replies d → d .drained ≡ true

@@ -1,6 +1,5 @@
 -- Why the lateness claim asks about every start before a good frame, also about one just a byte before it: a judge for which that one start stays
 -- undecided, and a good frame that is then not given in time.
-use mathlib.Core.Path.{_≡_}
 use mathlib.Core.Bool.{_&&_, cond}
 use mathlib.Core.List.{List, [], _∷_}
 use Prim.Native.Nat.{ℕ, _+_, _<_}
@@ -9,7 +8,8 @@ use lib.ListN.{length}
 use Rattle.stream.specs.Reading.{good, notYet, movesOn, Judge, Steady, readAll, repliesOf}
 use Rattle.stream.specs.Lateness.{ToldAt, ToldBefore, InTime}
 
--- of made-up frames: a 1 is a good frame by itself; a 2 starts something that only four bytes tell, and that is no frame then; nothing else starts one
+-- It judges made-up frames: a 1 is a good frame by itself; a 2 starts something that only four bytes tell, and that is no frame after all; no other byte
+-- starts anything
 abbrev pub fourTell : Judge Unit
 fourTell [] = notYet
 fourTell (x ∷ xs) = cond (eqb x 1) (good 1 tt) (cond (eqb x 2 && ltb (length xs) 3) notYet movesOn)

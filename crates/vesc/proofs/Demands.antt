@@ -1,13 +1,13 @@
 -- The three demands hold.
 use mathlib.Core.Path.{_≡_, refl, sym, ap, _∙_, subst}
-use mathlib.Core.List.{List}
+use mathlib.Core.List.{List, _++_}
 use Prim.Native.Nat.{ℕ, _+_, _-_, _≤_, _<_}
 use native.Mathlib.Omega.{arith}
 use lib.ListN.{length, getD, take, drop}
 use mathlib.Core.Bool.{Bool, true, false, not}
 use lib.Dec.{T, ltb, eqb, ltb→lt, nltb→le}
 use mathlib.Core.Logic.{_↔_, inl, inr}
-use borrow.Author.Tests.{eq-eqb, ne-eqb, eqb-true, eqb-false}
+use borrow.Author.Tests.{eqb-true, eqb-false}
 use Rattle.refusals.specs.Refusals.{Refusal, Answer, ok, refused, incompleteData, invalidFrame, unknownPacket, checksumMismatch, bufferTooSmall, payloadTooLong, decodeRefusal, consumed}
 use Rattle.refusals.proofs.Different.{none}
 use Rattle.checksum.specs.Xmodem.{checksumOf}
@@ -38,16 +38,24 @@ use Rattle.judge.proofs.Good.{declared-is, carried-is, payload-is, end-is, good
 use Rattle.reply.specs.Decode.{Decode, replyBy, decodeOf, decoded}
 use Rattle.reply.specs.declared.Decoded.{Decoded}
 use Rattle.reply.specs.Reply.{emptyReply}
+use Rattle.stream.specs.Reading.{readAll, repliesOf, joined}
+use Rattle.stream.specs.Lateness.{InTime}
 use Rattle.stream.proofs.Rule.{reading-by-rule}
+use Rattle.stream.proofs.Lateness.{in-time-later}
 use Rattle.buffer.proofs.Runs.{run-front, run-plain}
-use Rattle.buffer.proofs.AnyOrder.{any-front}
+use Rattle.buffer.proofs.AnyOrder.{any-front, any-plain}
 use Rattle.buffer.proofs.Use.{run-in-use}
+use Rattle.reply.specs.declared.CommandReply.{CommandReply}
+use Rattle.decoder.specs.declared.Decoder.{Decoder}
 use Rattle.decoder.specs.Judge.{decodeJudge}
+use Rattle.decoder.specs.State.{bufferOf}
 use Rattle.decoder.proofs.Judging.{decode-steady}
 use Rattle.reply.proofs.Nearness.{decoded-near}
 use Rattle.decoder.proofs.GatewayRuns.{any-reached}
 use Rattle.decoder.proofs.DemandThree as stream
-use Rattle.vesc.specs.Demands.{EncodeRefuses, DecodeRefuses, Fields, fieldsRead, Way, no-start, start-wrong, no-length, no-id, unknown-id, no-field, no-nul, length-wrong, no-end, end-wrong, sum-wrong, good, answerOf, DemandOne, DemandTwo, DemandThree, DemandThreeGateway, LineFigures, summed}
+use Rattle.decoder.proofs.NoSooner.{not-in-106, gateway-not-in-106}
+use Rattle.vesc.specs.Demands.{EncodeRefuses, DecodeRefuses, Fields, fieldsRead, Way, DemandOne, DemandTwo, AsRead, DemandThree, DemandThreeGateway, LineFigures, summed}
+use Rattle.vesc.specs.Demands.{no-start, start-wrong, no-length, no-id, unknown-id, no-field, no-nul, length-wrong, no-end, end-wrong, sum-wrong, good, answerOf}
 
 -- ---- a fact or its other side
 by-order : {C : Type 0} (a b : ℕ) → (a < b → C) → (b ≤ a → C) → C
@@ -217,11 +225,25 @@ demand-two =
       name-text = text-of-name;
     }
 
+-- the sentence with 109 follows from the one with 107
+as-read : {pieces ahead : List (List ℕ)} {taken : List ℕ} {replies : List CommandReply} {d : Decoder} → joined pieces ≡ taken ++ joined ahead
+    → replies ≡ repliesOf (readAll decodeJudge taken .frames) → bufferOf d .unread ≡ readAll decodeJudge taken .rest → InTime decodeJudge 107 (joined pieces) taken replies
+    → AsRead pieces ahead taken replies d
+as-read {pieces} {taken = taken} {replies} front in-order unread in-time =
+    record {
+      stream = front;
+      in-order = in-order;
+      unread = unread;
+      in-time = in-time;
+      as-demanded = in-time-later decodeJudge 107 109 (joined pieces) taken replies (omega arith) in-time;
+    }
+
 pub demand-three : DemandThree
 demand-three =
     record {
       by-rule = reading-by-rule decodeJudge decode-steady 0;
-      as-read = λ run. record { stream = run-front run; in-order = stream.run-replies run; unread = stream.run-unread run; in-time = stream.in-time run };
+      as-read = λ run. as-read (run-front run) (stream.run-replies run) (stream.run-unread run) (stream.in-time run);
+      no-sooner = not-in-106;
       whole = λ run. stream.whole-reading run;
       exists = stream.runs-whole;
       plain = λ run. run-plain run;
@@ -234,15 +256,12 @@ demand-three-gateway =
     record {
       so-far = λ run. stream.gateway-so-far run;
       as-read = λ run drained.
-          record {
-            stream = any-front run;
-            in-order = stream.gateway-replies run drained;
-            unread = stream.gateway-unread run drained;
-            in-time = stream.gateway-in-time run drained;
-          };
+          as-read (any-front run) (stream.gateway-replies run drained) (stream.gateway-unread run drained) (stream.gateway-in-time run drained);
+      no-sooner = gateway-not-in-106;
       whole = λ run. stream.gateway-whole run;
       in-turn = λ run. stream.gateway-in-turn run;
       exists = stream.gateway-exists;
+      plain = λ run. any-plain run;
       asking-ends = stream.gateway-asking-ends;
       ends = λ run. stream.gateway-ends run;
       takes-some = λ reached. stream.gateway-takes-some reached;

@@ -9,7 +9,7 @@ use mathlib.Core.List.{List, [], _∷_, _++_}
 use Prim.Native.Nat.{ℕ, _+_, _-_, _^_, _≤_, _<_}
 use lib.IntN.{ℤ}
 use lib.Ieee.{binary32, ofInt}
-use lib.ListN.{length, take, drop}
+use lib.ListN.{length, drop}
 use Rattle.refusals.specs.Refusals.{Answer, ok, refused, consumed, incompleteData, invalidFrame, unknownPacket, checksumMismatch}
 use Rattle.refusals.specs.Refusals.{bufferTooSmall, payloadTooLong}
 use Rattle.refusals.specs.declared.EncodeError.{EncodeError}
@@ -35,10 +35,9 @@ use Rattle.reply.specs.Nearness.{RecordsNear}
 use Rattle.reply.specs.declared.Decoded.{Decoded}
 use Rattle.reply.specs.Reply.{emptyReply}
 use Rattle.reply.specs.declared.CommandReply.{CommandReply}
-use Rattle.stream.specs.Reading as verdict
 use Rattle.stream.specs.Reading.{Reading, readAll, Reads, repliesOf, joined}
-use Rattle.stream.specs.Lateness.{NoneOver}
-use Rattle.buffer.specs.Runs.{Nonempty, AskingEnds, GivenSoFar, Totals}
+use Rattle.stream.specs.Lateness.{InTime}
+use Rattle.buffer.specs.Runs.{Nonempty, AskingEnds, Totals}
 use Rattle.decoder.specs.declared.Decoder.{Decoder}
 use Rattle.decoder.specs.declared.Fed.{Fed}
 use Rattle.decoder.specs.declared.GatewayFed.{GatewayFed}
@@ -157,6 +156,8 @@ pub record DemandTwo : Type 0 where
 -- of the uncut stream, in order and no others. A good frame overlapped by no earlier frame of that reading is given,
 -- however damaged the bytes before it, once 109 bytes counted from its first, or its own last byte if that is later,
 -- have been taken in and asked for."
+-- The number proved is 107 (document 02, W13); the sentence with 109 follows. 107 is the least: `no-sooner` says that with 106
+-- it would be false, and decoder/specs/Lateness.antt has a stream, a cutting and a good frame that show it.
 -- `Run pieces ahead taken replies d` is that use of the decoder, at its start or after some `next` that gave nothing, also
 -- one in the middle of a piece: `pieces` is the cutting, `ahead` are the pieces still to be offered, `taken` the bytes
 -- taken in so far, `replies` the replies so far, and d is the decoder then. Each call may return whatever its contract
@@ -170,13 +171,11 @@ pub record AsRead (pieces ahead : List (List ℕ)) (taken : List ℕ) (replies :
   pub in-order : replies ≡ repliesOf (readAll decodeJudge taken .frames)
   -- what that reading leaves is unread
   pub unread : bufferOf d .unread ≡ readAll decodeJudge taken .rest
-  -- At p of the stream stands a frame that is good by its own n bytes. No earlier frame of the stream's reading reaches
-  -- over p. Its last byte is taken, and so are 109 bytes counted from its first. Then its reply is among the replies, at
-  -- its place
-  pub in-time : (p n : ℕ) (reply : CommandReply) → decodeJudge (take n (drop p (joined pieces))) ≡ verdict.good n reply
-      → NoneOver p (readAll decodeJudge (joined pieces) .frames)
-      → p + n ≤ length taken → p + 109 ≤ length taken
-      → GivenSoFar p n reply (readAll decodeJudge (joined pieces) .frames) replies
+  -- A good frame overlapped by no earlier one has its reply among the replies, at its place, once its own last byte and 107
+  -- bytes counted from its first are taken (stream/specs/Lateness.antt)
+  pub in-time : InTime decodeJudge 107 (joined pieces) taken replies
+  -- and so once 109 are
+  pub as-demanded : InTime decodeJudge 109 (joined pieces) taken replies
 
 pub record DemandThree : Type 0 where
   -- `readAll` is the one left-to-right reading: what document 01's rule comes to, and nothing else does
@@ -184,6 +183,9 @@ pub record DemandThree : Type 0 where
   -- what every run is, at each `next` that gave nothing
   pub as-read : {pieces ahead : List (List ℕ)} {taken : List ℕ} {replies : List CommandReply} {d : Decoder}
       → Run pieces ahead taken replies d → AsRead pieces ahead taken replies d
+  -- 107 is the least
+  pub no-sooner : ((pieces ahead : List (List ℕ)) (taken : List ℕ) (replies : List CommandReply) (d : Decoder)
+      → Run pieces ahead taken replies d → InTime decodeJudge 106 (joined pieces) taken replies) → ⊥
   -- Once nothing is ahead, "the replies are those of one left-to-right reading of the uncut stream"
   pub whole : {pieces : List (List ℕ)} {taken : List ℕ} {replies : List CommandReply} {d : Decoder} → Run pieces [] taken replies d
       → replies ≡ repliesOf (readAll decodeJudge (joined pieces) .frames)
@@ -212,6 +214,9 @@ pub record DemandThreeGateway : Type 0 where
   -- At each point at which the decoder is drained they are all of them, and a good frame has come in time
   pub as-read : {pieces ahead : List (List ℕ)} {taken : List ℕ} {replies : List CommandReply} {d : Decoder}
       → GatewayRun pieces ahead taken replies d → d .drained ≡ true → AsRead pieces ahead taken replies d
+  -- 107 is the least here too
+  pub no-sooner : ((pieces ahead : List (List ℕ)) (taken : List ℕ) (replies : List CommandReply) (d : Decoder)
+      → GatewayRun pieces ahead taken replies d → d .drained ≡ true → InTime decodeJudge 106 (joined pieces) taken replies) → ⊥
   -- Once nothing is ahead, "the replies are those of one left-to-right reading of the uncut stream"
   pub whole : {pieces : List (List ℕ)} {taken : List ℕ} {replies : List CommandReply} {d : Decoder}
       → GatewayRun pieces [] taken replies d → d .drained ≡ true
@@ -223,6 +228,8 @@ pub record DemandThreeGateway : Type 0 where
   -- Every cutting, into any pieces, has such calls that offer just them, and take all
   pub exists : (pieces : List (List ℕ))
       → (replies : List CommandReply) × (d : Decoder) × PlainGatewayRun pieces [] (joined pieces) replies d × (d .drained ≡ true)
+  pub plain : {pieces ahead : List (List ℕ)} {taken : List ℕ} {replies : List CommandReply} {d : Decoder}
+      → PlainGatewayRun pieces ahead taken replies d → GatewayRun pieces ahead taken replies d
   -- Asking comes to an end, whatever the decoder. From any point at which it is drained, if each piece is offered and the decoder
   -- then asked: every call has a result, and whatever the results are, all is taken in the end
   pub asking-ends : (d : Decoder) → AskingEnds gatewayCalls d
