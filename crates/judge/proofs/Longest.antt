@@ -65,5 +65,5 @@ longest-frames =
       stats = one-as-long (128 ∷ replicate 4 255 ++ replicate 44 0) (tt {0}) refl refl (none-longer _ _ (reads getStats));
       reset-stats = one-as-long (129 ∷ []) (tt {0}) refl refl (none-longer _ _ (reads resetStats));
       enough = judge-full;
-      enough-for-others = judge-full-others;
+      enough-for-others = λ s differs full. judge-full-others s differs full;
     }
