@@ -34,9 +34,9 @@ oracle:
 
 # Makes the stored cases and the Rust's answers to them anew.
 answers: oracle
-	@target/oracle/build/release/answers crates/replay numbers unpackers commands replies streams gateway faults
+	@target/oracle/build/release/answers crates/replay numbers unpackers commands replies streams gateway late faults
 
-# Compares with the Rust over fresh random cases; so many SEQUENCES of calls twice, without the gateway feed and with it: make compare SEED=7 DECODES=2000000 ENCODES=200000 SEQUENCES=20000 READS=1000000
+# Compares with the Rust over fresh random cases; so many SEQUENCES of calls three times, without the gateway feed, with it, and over late frames: make compare SEED=7 DECODES=2000000 ENCODES=200000 SEQUENCES=20000 READS=1000000
 SEED ?= 1
 DECODES ?= 20000
 ENCODES ?= 2000

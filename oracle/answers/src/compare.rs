@@ -1,6 +1,7 @@
 //! Comparison at scale: fresh random cases, answered by the Rust here and by our `replay` program, block by block. The first case that
 //! differs is shown with its bytes and both answers whole, field by field.
 
+use crate::lateness::{self, Tally};
 use crate::{Block, Random, answer_to, commands, numbers, replies, streams, unpackers};
 use std::io::Write;
 use std::process::{Command, Stdio};
@@ -133,7 +134,16 @@ fn reads(block: &mut Block, random: &mut Random, count: usize) {
     unpackers::some(block, random, count / 4);
 }
 
-/// Exits with 1 where any answer differs.
+/// What was measured of the lateness, where it was.
+fn measured(tally: &Tally) -> String {
+    if tally.streams == 0 {
+        return String::new();
+    }
+    let (late, distance) = tally.latest();
+    format!(" ({} streams, {} frames, the latest {late}, false start {distance} bytes before)", tally.streams, tally.frames)
+}
+
+/// Exits with 1 where any answer differs. A frame that is too late stops it.
 pub fn run(args: &[String]) {
     let [seed, decodes, encodes, sequences, read, program @ ..] = args else {
         eprintln!("usage: answers compare SEED DECODES ENCODES SEQUENCES READS PROGRAM..");
@@ -146,18 +156,20 @@ pub fn run(args: &[String]) {
     let seed: u64 = number(seed, "the seed");
     let mut random = Random(seed ^ 0x9E37_79B9_7F4A_7C15);
     println!("seed {seed}");
-    let sorts: [(&str, &str, usize, fn(&mut Block, &mut Random, usize)); 5] = [
+    let sorts: [(&str, &str, usize, fn(&mut Block, &mut Random, usize)); 6] = [
         ("reads, writes, names, masks", read, 50_000, reads),
         ("decode", decodes, 100_000, replies::some),
         ("encode", encodes, 50_000, commands::some),
         ("call sequences", sequences, 500, streams::some),
-        // the last, so that the sorts before it draw what they drew without it
+        // the last two, so that the sorts before them draw what they drew without them
         ("gateway sequences", sequences, 500, streams::gateway_some),
+        ("lateness sequences", sequences, 3_000, lateness::some),
     ];
     let mut all = 0;
     for (name, wanted, most, make) in sorts {
         let wanted: usize = number(wanted, name);
         let (mut left, mut good, mut nans, mut differ) = (wanted, 0, 0, 0);
+        let mut tally = Tally::default();
         while left > 0 {
             let now = left.min(most);
             let mut block = Block::default();
@@ -165,10 +177,11 @@ pub fn run(args: &[String]) {
             differ += differences(program, &block, all + differ == 0);
             good += block.good;
             nans += block.nans;
+            tally.add(&block.late);
             left -= now;
         }
         let frames = if good > 0 { format!(" ({good} good frames, {nans} of them with a NaN)") } else { String::new() };
-        println!("{name}: {wanted} cases{frames}, {differ} differences");
+        println!("{name}: {wanted} cases{frames}{}, {differ} differences", measured(&tally));
         all += differ;
     }
     if all > 0 {

@@ -12,7 +12,7 @@ pub const NOT_DRAINED: u8 = 15;
 /// The most bytes unread in a drained state: one fewer than the longest frame.
 const DRAINED_MOST: usize = 109;
 /// `oracle/variants` turns this off: the comparison must find a wrong program by itself.
-const ASSERTED: bool = true;
+pub const ASSERTED: bool = true;
 
 pub struct Marked {
     pub figured: Figured,

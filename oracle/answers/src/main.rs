@@ -3,7 +3,9 @@
 //!     answers FOLDER BLOCK..     writes FOLDER/stdin (the cases) and FOLDER/stdout (the Rust's answers)
 //!
 //!     answers compare SEED DECODES ENCODES SEQUENCES READS PROGRAM..     fresh random cases, asked of the Rust and of our PROGRAM; so many
-//!                                                                         SEQUENCES twice, without the gateway feed and with it
+//!                                                                         SEQUENCES three times: without the gateway feed, with it, and
+//!                                                                         over late frames
+//!     answers lateness SEED STREAMS                                       how late frames are given, by the distance of a false start
 //!     answers traffic BYTES FILE [SEED]                                   so many bytes of frames and noise
 //!     answers line                                                        the Rust's decoder in the place of `vescline`: prints the same
 //!     answers line bare                                                   the same without the figures, for `make speed`
@@ -23,6 +25,7 @@ mod compare;
 mod decoder;
 mod figures;
 mod gateway;
+mod lateness;
 mod line;
 mod numbers;
 mod replies;
@@ -42,6 +45,8 @@ pub struct Block {
     pub nans: usize,
     /// The stream that the sequences of calls take their bytes from.
     pub stream: Vec<u8>,
+    /// The lateness that was measured over its streams.
+    pub late: lateness::Tally,
 }
 
 impl Block {
@@ -145,13 +150,14 @@ fn main() {
     let args: Vec<String> = std::env::args().collect();
     match args.get(1).map(String::as_str) {
         Some("compare") => return compare::run(&args[2..]),
+        Some("lateness") => return lateness::run(&args[2..]),
         Some("traffic") => return line::traffic(&args[2..]),
         Some("line") if args.get(2).is_some_and(|how| how == "bare") => return line::bare(),
         Some("line") => return line::run(),
         _ => {}
     }
     let (Some(folder), true) = (args.get(1), args.len() > 2) else {
-        eprintln!("usage: answers FOLDER BLOCK..   the blocks: numbers unpackers commands replies streams gateway faults");
+        eprintln!("usage: answers FOLDER BLOCK..   the blocks: numbers unpackers commands replies streams gateway late faults");
         std::process::exit(2);
     };
     let mut cases = vec![];
@@ -164,6 +170,7 @@ fn main() {
             "replies" => replies::block(),
             "streams" => streams::block(),
             "gateway" => streams::gateway_block(),
+            "late" => lateness::block(),
             "faults" => faults(),
             _ => {
                 eprintln!("answers: no block {block}");

@@ -207,7 +207,7 @@ const VALUES: [usize; 22] = [2, 2, 4, 4, 4, 4, 2, 4, 2, 4, 4, 4, 4, 4, 4, 1, 4, 
 const SETUP: [usize; 22] = [2, 2, 4, 4, 2, 4, 4, 2, 2, 4, 4, 4, 4, 4, 4, 4, 1, 1, 1, 4, 4, 4];
 const STATS: [usize; 11] = [4; 11];
 
-fn widths_of(id: u8) -> &'static [usize] {
+pub fn widths_of(id: u8) -> &'static [usize] {
     match id {
         51 => &SETUP,
         128 => &STATS,
@@ -366,7 +366,7 @@ fn rare_sum(random: &mut Random) -> Vec<u8> {
 }
 
 /// The sum put right again, over the declared length where the frame has it.
-fn summed(frame: &[u8]) -> Vec<u8> {
+pub fn summed(frame: &[u8]) -> Vec<u8> {
     let mut again = frame.to_vec();
     let n = frame.len() - 5;
     let sum = crc(&again[2..2 + n]).to_be_bytes();

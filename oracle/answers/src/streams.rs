@@ -15,10 +15,10 @@ use crate::replies::{any, damaged, framed, fw_info, fw_version, masked, whole};
 use crate::{Block, CommandReply, Random};
 
 #[derive(Default)]
-struct Run {
+pub struct Run {
     marked: Marked,
-    replies: Vec<CommandReply>,
-    at: usize,
+    pub replies: Vec<CommandReply>,
+    pub at: usize,
     calls: usize,
 }
 
@@ -125,18 +125,18 @@ pub fn answer(answer: &mut Answer, case: &[u8], stream: &[u8]) {
 }
 
 /// A sequence of calls in the making. It runs them as it goes, so that a piece can be fitted to the free tail.
-struct Script {
-    run: Run,
+pub struct Script {
+    pub run: Run,
     aside: Answer,
     calls: Vec<(u8, usize, usize)>,
 }
 
 impl Script {
-    fn new() -> Self {
+    pub fn new() -> Self {
         Script { run: Run::default(), aside: Answer::new(b'C', false), calls: vec![] }
     }
 
-    fn call(&mut self, stream: &[u8], code: u8, size: usize) {
+    pub fn call(&mut self, stream: &[u8], code: u8, size: usize) {
         self.run.call(&mut self.aside, stream, code, size);
         match self.calls.last_mut() {
             Some((c, s, times)) if *c == code && *s == size && *times < 65535 => *times += 1,
@@ -159,7 +159,7 @@ impl Script {
     }
 
     /// The same by either feed: code 3 or 7.
-    fn pieces_by(mut self, code: u8, stream: &[u8], size: usize) -> Self {
+    pub fn pieces_by(mut self, code: u8, stream: &[u8], size: usize) -> Self {
         for _ in 0..2 * stream.len() {
             if self.run.at < stream.len() {
                 self.call(stream, code, size);
@@ -331,7 +331,7 @@ impl Script {
         self
     }
 
-    fn case(self, block: &mut Block) {
+    pub fn case(self, block: &mut Block) {
         let mut case = vec![];
         for (code, size, times) in self.calls.into_iter().take(800) {
             case.push(code);
@@ -343,7 +343,7 @@ impl Script {
 }
 
 /// A stretch of a stream: a good frame, a damaged one, a cut one, noise, false starts or zeros.
-fn stretch(random: &mut Random) -> Vec<u8> {
+pub fn stretch(random: &mut Random) -> Vec<u8> {
     match random.below(10) {
         0..=4 => any(random),
         5 => {
@@ -365,7 +365,7 @@ fn stretch(random: &mut Random) -> Vec<u8> {
 }
 
 /// A frame of a kind's greatest length, or a few bytes shorter where names allow it.
-fn long_frame(random: &mut Random) -> Vec<u8> {
+pub fn long_frame(random: &mut Random) -> Vec<u8> {
     let (less, also) = (random.below(4), random.below(4));
     match random.below(6) {
         0..=2 => fw_version(random, 38 - less, 38 - also),
