@@ -1,4 +1,5 @@
 pub mod Answers
 pub mod Prefix
 pub mod Unique
+pub mod Records
 pub mod Nearness

@@ -1,4 +1,5 @@
 pub mod Reply
 pub mod Decode
 pub mod OneAnswer
+pub mod Records
 pub mod Nearness

@@ -5,7 +5,7 @@ use Prim.Native.Nat.{ℕ}
 use mathlib.Core.List.{List}
 use lib.Dec.{eqb}
 use lib.ListN.{getD}
-use Rattle.format.specs.Format.{idOf}
+use Rattle.format.specs.Format.{idOf, allValues}
 use Rattle.format.specs.declared.CommandId.{CommandId}
 use Rattle.format.specs.declared.CommandId.the-variants as CommandId
 use Rattle.layout.specs.Layout.{raws}
@@ -60,19 +60,20 @@ abbrev pub withFwInfo : FwInfo → CommandReply
 withFwInfo info = replyWith Kind.FwInfo noValues noSetupValues noStats noFwVersion info
 
 -- What a payload carries after its id, from the raw values of the reply's layout (layout/specs/Replies.antt). A masked reply's are the mask, and then the
--- numbers of its fields.
+-- numbers of its fields. Document 02, W1: "Put the mask as received, unknown bits too, into the telemetry records; GetValues shows all 22 bits, and the
+-- statistics record gets its mask too."
 
 unfoldable pub getValuesOf : List ℕ → CommandReply
-getValuesOf payload = withValues Kind.GetValues (valuesOf (raws getValues payload 1 .0))
+getValuesOf payload = withValues Kind.GetValues (valuesOf allValues (raws getValues payload 1 .0))
 
 unfoldable pub getValuesSelectiveOf : List ℕ → CommandReply
-getValuesSelectiveOf payload = withValues Kind.GetValuesSelective (valuesOf (raws selective payload 1 .0 .1))
+getValuesSelectiveOf payload = withValues Kind.GetValuesSelective (valuesOf (raws selective payload 1 .0 .0) (raws selective payload 1 .0 .1))
 
 unfoldable pub getValuesSetupSelectiveOf : List ℕ → CommandReply
-getValuesSetupSelectiveOf payload = withSetupValues (setupValuesOf (raws setupSelective payload 1 .0 .1))
+getValuesSetupSelectiveOf payload = withSetupValues (setupValuesOf (raws setupSelective payload 1 .0 .0) (raws setupSelective payload 1 .0 .1))
 
 unfoldable pub getStatsOf : List ℕ → CommandReply
-getStatsOf payload = withStats (statsOf (raws getStats payload 1 .0 .1))
+getStatsOf payload = withStats (statsOf (raws getStats payload 1 .0 .0) (raws getStats payload 1 .0 .1))
 
 unfoldable pub fwVersionReplyOf : List ℕ → CommandReply
 fwVersionReplyOf payload = withFwVersion (fwVersionOf payload)

@@ -81,11 +81,11 @@ pub fn empty() -> CommandReply
 }
 
 fn with_values(kind: Kind, mask: u32, payload: &[u8], at: usize) -> CommandReply
-    ensures { λ r. ⌜ r ≡ withValues kind (valuesOf (numbersAt (widths mask valuesTable) (now (payload .entry)) at)) ⌝ }
+    ensures { λ r. ⌜ r ≡ withValues kind (valuesOf mask (numbersAt (widths mask valuesTable) (now (payload .entry)) at)) ⌝ }
 {
     let raw = tables::unpack_fields(payload, at, Sort::Values, mask);
     let mut reply = blank(kind);
-    reply.values = telemetry::values_of(raw);
+    reply.values = telemetry::values_of(mask, raw);
     reply
 }
 
@@ -113,7 +113,7 @@ fn unpack_get_values_setup_selective(payload: &[u8]) -> CommandReply
     let mask = tables::word_at(payload, 1);
     let raw = tables::unpack_fields(payload, 5, Sort::SetupValues, mask);
     let mut reply = blank(Kind::GetValuesSetupSelective);
-    reply.setup_values = telemetry::setup_values_of(raw);
+    reply.setup_values = telemetry::setup_values_of(mask, raw);
     reply
 }
 
@@ -123,7 +123,7 @@ fn unpack_get_stats(payload: &[u8]) -> CommandReply
     let mask = tables::word_at(payload, 1);
     let raw = tables::unpack_fields(payload, 5, Sort::Stats, mask);
     let mut reply = blank(Kind::GetStats);
-    reply.stats = telemetry::stats_of(raw);
+    reply.stats = telemetry::stats_of(mask, raw);
     reply
 }
 

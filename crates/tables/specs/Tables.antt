@@ -5,12 +5,14 @@ use mathlib.Core.List.{List, [], _∷_}
 use lib.Dec.{eqb}
 
 -- "hS is a signed 16-bit number over S, wS a signed 32-bit number over S, i and u signed and unsigned 32-bit, b a byte, F a binary32 by its bits."
+-- `faultByte` is the b of fault_code: "Fault bytes 0 to 29 have names".
 pub data Coding : Type 0 where
   h : ℕ → Coding
   w : ℕ → Coding
   i : Coding
   u : Coding
   b : Coding
+  faultByte : Coding
   F : Coding
 
 -- the bytes that it takes
@@ -20,6 +22,7 @@ widthOf (w scale) = 4
 widthOf i = 4
 widthOf u = 4
 widthOf b = 1
+widthOf faultByte = 1
 widthOf F = 4
 
 -- a field: the bit of the mask that governs it, and how its number is coded
@@ -48,7 +51,7 @@ valuesTable =
     ∷ field 12 (w 10000)  -- watt_hours_charged
     ∷ field 13 i  -- tachometer
     ∷ field 14 i  -- tachometer_abs
-    ∷ field 15 b  -- fault_code
+    ∷ field 15 faultByte  -- fault_code
     ∷ field 16 (w 1000000)  -- pid_pos
     ∷ field 17 b  -- controller_id
     ∷ field 18 (h 10)  -- temp_mosfet1
@@ -78,7 +81,7 @@ setupTable =
     ∷ field 13 (w 1000)  -- distance
     ∷ field 14 (w 1000)  -- distance_abs
     ∷ field 15 (w 1000000)  -- pid_pos
-    ∷ field 16 b  -- fault_code
+    ∷ field 16 faultByte  -- fault_code
     ∷ field 17 b  -- controller_id
     ∷ field 18 b  -- num_vescs
     ∷ field 19 (w 1000)  -- watt_hours_battery_left

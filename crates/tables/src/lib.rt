@@ -2,11 +2,14 @@
 // is. Ports the field reading of `unpack_get_values_selective`, `unpack_get_values_setup_selective`
 // and `unpack_get_stats` of src/command.rs. A byte past the end of a slice is read as 0: `judge` has
 // seen that a good frame has every byte.
+ghost use mathlib.Core.Bool.{true};
+ghost use mathlib.Core.Logic.{_↔_};
 ghost use mathlib.Core.Path.{_≡_};
 ghost use Prim.Native.Nat.{_≤_, _<_};
 ghost use lib.ListN.{length, drop, getD};
 ghost use Rattle.packer.specs.Numbers.{beAt, total, numbersAt};
 ghost use Rattle.tables.specs.Tables.{widths};
+ghost use Rattle.tables.specs.Bits.{HasBits};
 ghost use Rattle.tables.specs.Sorts.{tableOf};
 ghost use Rattle.tables.specs.Rows.{Rows, rowTakes, widthsBy, padded};
 
@@ -15,6 +18,13 @@ pub enum Sort {
     Values,
     SetupValues,
     Stats,
+}
+
+// Whether a mask has every bit of `bits`: the Rust's `contains`.
+pub fn has_bits(mask: u32, bits: u32) -> bool
+    ensures { λ r. ⌜ (r ≡ true) ↔ HasBits mask bits ⌝ }
+{
+    mask & bits == bits
 }
 
 // A table is a row a field, in the order sent: 8 times the mask's bit that governs the field, and the

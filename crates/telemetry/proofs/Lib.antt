@@ -1,5 +1,5 @@
 pub mod Rows
 pub mod Scales
-pub mod Absent
+pub mod Records
 pub mod Nearness
 pub mod Padded

@@ -5,7 +5,7 @@ use mathlib.Core.List.{List, [], _∷_}
 use Prim.Native.Nat.{ℕ, zero, suc, _^_, _≤_, _<_}
 use lib.Dec.{ltb, leb}
 use borrow.Author.Tests.{ltb-true, leb-true}
-use Rattle.tables.specs.Tables.{Coding, h, w, i, u, b, F, Field}
+use Rattle.tables.specs.Tables.{Coding, h, w, i, u, b, faultByte, F, Field}
 use Rattle.tables.specs.Sorts.{tableOf}
 use Rattle.tables.specs.declared.Sort.{Sort}
 use Rattle.tables.specs.declared.Sort.the-variants.{Values, SetupValues, Stats}
@@ -20,6 +20,7 @@ codingFits (w scale) = fits scale
 codingFits i = true
 codingFits u = true
 codingFits b = true
+codingFits faultByte = true
 codingFits F = true
 
 module _ (scale : ℕ) (e : fits scale ≡ true) where

@@ -1,3 +1,3 @@
 pub mod Telemetry
-pub mod Absent
+pub mod Records
 pub mod Nearness

@@ -1,4 +1,5 @@
--- The telemetry records, document 01, "Reply fields": each field by its entry in the table, from the raw numbers of the table's fields.
+-- The telemetry records, document 01, "Reply fields": each field by its entry in the table, from the raw numbers of the table's fields. The mask is document
+-- 02's, W1: "Put the mask as received, unknown bits too, into the telemetry records".
 use Prim.Native.Nat.{ℕ, _%_}
 use mathlib.Core.List.{List, []}
 use lib.IntN.{ℤ, pos}
@@ -6,7 +7,7 @@ use lib.Ieee.{Float, binary32, ofInt, ofBits}
 use lib.ListN.{getD}
 use Rattle.floats.specs.Numbers.{overScale}
 use Rattle.packer.specs.Numbers.{signedOf}
-use Rattle.tables.specs.Tables.{Coding, h, w, i, u, b, F, Field, field, valuesTable, setupTable, statsTable}
+use Rattle.tables.specs.Tables.{Coding, h, w, i, u, b, faultByte, F, Field, field, valuesTable, setupTable, statsTable}
 use Rattle.codes.specs.Codes.{faultOf}
 use Rattle.codes.specs.declared.FaultCode.{FaultCode}
 use Rattle.codes.specs.declared.FaultCode.the-variants as FaultCode
@@ -22,6 +23,7 @@ pub data FieldValue : Type 0 where
   float : Float → FieldValue
   signed : ℤ → FieldValue
   unsigned : ℕ → FieldValue
+  fault : FaultCode → FieldValue
 
 -- the value that a raw number stands for: "hS is a signed 16-bit number over S, wS a signed 32-bit number over S, i and u signed and unsigned 32-bit, b a byte,
 -- F a binary32 by its bits"
@@ -31,6 +33,7 @@ valueBy (w scale) raw = float (overScale (signedOf 4294967296 raw) (ofInt binary
 valueBy i raw = signed (signedOf 4294967296 raw)
 valueBy u raw = unsigned raw
 valueBy b raw = unsigned (raw % 256)
+valueBy faultByte raw = fault (faultOf (raw % 256))
 valueBy F raw = float (ofBits binary32 raw)
 
 -- the entry at a place of a table
@@ -41,21 +44,30 @@ entry table k = getD table k (field 0 b)
 abbrev pub fieldAt : List Field → List ℕ → ℕ → FieldValue
 fieldAt table raws k = valueBy (entry table k .coding) (getD raws k 0)
 
--- the number in a value; zero is a filler where it is one of the other two
+-- what is in a value; zero, or None, is a filler where it is one of the others
 abbrev pub floatIn : FieldValue → Float
 floatIn (float x) = x
 floatIn (signed z) = zero
 floatIn (unsigned n) = zero
+floatIn (fault code) = zero
 
 abbrev pub signedIn : FieldValue → ℤ
 signedIn (float x) = pos 0
 signedIn (signed z) = z
 signedIn (unsigned n) = pos 0
+signedIn (fault code) = pos 0
 
 abbrev pub unsignedIn : FieldValue → ℕ
 unsignedIn (float x) = 0
 unsignedIn (signed z) = 0
 unsignedIn (unsigned n) = n
+unsignedIn (fault code) = 0
+
+abbrev pub faultIn : FieldValue → FaultCode
+faultIn (float x) = FaultCode.None
+faultIn (signed z) = FaultCode.None
+faultIn (unsigned n) = FaultCode.None
+faultIn (fault code) = code
 
 abbrev pub floatField : List Field → List ℕ → ℕ → Float
 floatField table raws k = floatIn (fieldAt table raws k)
@@ -66,10 +78,14 @@ signedField table raws k = signedIn (fieldAt table raws k)
 abbrev pub unsignedField : List Field → List ℕ → ℕ → ℕ
 unsignedField table raws k = unsignedIn (fieldAt table raws k)
 
+abbrev pub faultField : List Field → List ℕ → ℕ → FaultCode
+faultField table raws k = faultIn (fieldAt table raws k)
+
 -- GetValues and GetValuesSelective
-unfoldable pub valuesWith : FaultCode → List ℕ → Values
-valuesWith fault raws =
+unfoldable pub valuesWith : ℕ → FaultCode → List ℕ → Values
+valuesWith mask code raws =
     record {
+      mask = mask;
       «temp_mosfet» = floatField valuesTable raws 0;
       «temp_motor» = floatField valuesTable raws 1;
       «avg_current_motor» = floatField valuesTable raws 2;
@@ -85,7 +101,7 @@ valuesWith fault raws =
       «watt_hours_charged» = floatField valuesTable raws 12;
       tachometer = signedField valuesTable raws 13;
       «tachometer_abs» = signedField valuesTable raws 14;
-      «fault_code» = fault;
+      «fault_code» = code;
       «pid_pos» = floatField valuesTable raws 16;
       «controller_id» = unsignedField valuesTable raws 17;
       «temp_mosfet1» = floatField valuesTable raws 18;
@@ -96,13 +112,14 @@ valuesWith fault raws =
       status = unsignedField valuesTable raws 23;
     }
 
-unfoldable pub valuesOf : List ℕ → Values
-valuesOf raws = valuesWith (faultOf (unsignedField valuesTable raws 15)) raws
+unfoldable pub valuesOf : ℕ → List ℕ → Values
+valuesOf mask raws = valuesWith mask (faultField valuesTable raws 15) raws
 
 -- GetValuesSetupSelective
-unfoldable pub setupValuesWith : FaultCode → List ℕ → SetupValues
-setupValuesWith fault raws =
+unfoldable pub setupValuesWith : ℕ → FaultCode → List ℕ → SetupValues
+setupValuesWith mask code raws =
     record {
+      mask = mask;
       «temp_mosfet» = floatField setupTable raws 0;
       «temp_motor» = floatField setupTable raws 1;
       «avg_current_motor» = floatField setupTable raws 2;
@@ -119,7 +136,7 @@ setupValuesWith fault raws =
       distance = floatField setupTable raws 13;
       «distance_abs» = floatField setupTable raws 14;
       «pid_pos» = floatField setupTable raws 15;
-      «fault_code» = fault;
+      «fault_code» = code;
       «controller_id» = unsignedField setupTable raws 17;
       «num_vescs» = unsignedField setupTable raws 18;
       «watt_hours_battery_left» = floatField setupTable raws 19;
@@ -127,13 +144,14 @@ setupValuesWith fault raws =
       «uptime_ms» = unsignedField setupTable raws 21;
     }
 
-unfoldable pub setupValuesOf : List ℕ → SetupValues
-setupValuesOf raws = setupValuesWith (faultOf (unsignedField setupTable raws 16)) raws
+unfoldable pub setupValuesOf : ℕ → List ℕ → SetupValues
+setupValuesOf mask raws = setupValuesWith mask (faultField setupTable raws 16) raws
 
 -- GetStats
-unfoldable pub statsOf : List ℕ → Stats
-statsOf raws =
+unfoldable pub statsOf : ℕ → List ℕ → Stats
+statsOf mask raws =
     record {
+      mask = mask;
       «speed_avg» = floatField statsTable raws 0;
       «speed_max» = floatField statsTable raws 1;
       «power_avg» = floatField statsTable raws 2;
@@ -147,12 +165,12 @@ statsOf raws =
       «count_time» = floatField statsTable raws 10;
     }
 
--- records with nothing in them: no raw number, so each is 0 and each field is a zero (`Absent`), with no fault
+-- records with nothing in them: no bit of a mask and no raw number, so each field is a zero (`Records`), with no fault
 abbrev pub noValues : Values
-noValues = valuesWith FaultCode.None []
+noValues = valuesWith 0 FaultCode.None []
 
 abbrev pub noSetupValues : SetupValues
-noSetupValues = setupValuesWith FaultCode.None []
+noSetupValues = setupValuesWith 0 FaultCode.None []
 
 abbrev pub noStats : Stats
-noStats = statsOf []
+noStats = statsOf 0 []

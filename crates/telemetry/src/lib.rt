@@ -1,16 +1,22 @@
 // The telemetry records. Ports `Values`, `SetupValues` and `Stats` of src/command.rs, and their filling
 // field by field. The walk over the mask stands in the crate `tables`: it leaves 0 for a field that was
-// not sent, and 0 is a zero of every kind, so that no field is tested again.
+// not sent, and 0 is a zero of every kind, so that no field is tested again. A record keeps the mask, which the
+// Rust's does not: it tells a zero that was sent from a field that was not.
+ghost use mathlib.Core.Bool.{true};
 ghost use mathlib.Core.List.{[]};
+ghost use mathlib.Core.Logic.{_↔_};
 ghost use mathlib.Core.Path.{_≡_};
 ghost use Prim.Native.Nat.{_%_};
 ghost use Rattle.floats.specs.Numbers.{overScale};
 ghost use Rattle.packer.specs.Numbers.{signedOf};
+ghost use Rattle.tables.specs.Bits.{HasBits};
 ghost use Rattle.telemetry.specs.Telemetry.{noValues, noSetupValues, noStats, valuesWith, valuesOf, setupValuesWith, setupValuesOf, statsOf};
 use codes::FaultCode;
 
-// The telemetry of GetValues and GetValuesSelective.
+// The telemetry of GetValues and GetValuesSelective, and the mask as received, unknown bits too. GetValues, which
+// sends no mask, has all 22 bits.
 pub struct Values {
+    pub mask: u32,
     pub temp_mosfet: f32,
     pub temp_motor: f32,
     pub avg_current_motor: f32,
@@ -37,8 +43,9 @@ pub struct Values {
     pub status: u8,
 }
 
-// The telemetry of GetValuesSetupSelective.
+// The telemetry of GetValuesSetupSelective, and the mask as received.
 pub struct SetupValues {
+    pub mask: u32,
     pub temp_mosfet: f32,
     pub temp_motor: f32,
     pub avg_current_motor: f32,
@@ -63,8 +70,9 @@ pub struct SetupValues {
     pub uptime_ms: u32,
 }
 
-// The statistics of GetStats.
+// The statistics of GetStats, and the mask as received: 32 bits, where the query's has 16.
 pub struct Stats {
+    pub mask: u32,
     pub speed_avg: f32,
     pub speed_max: f32,
     pub power_avg: f32,
@@ -76,6 +84,33 @@ pub struct Stats {
     pub temp_motor_avg: f32,
     pub temp_motor_max: f32,
     pub count_time: f32,
+}
+
+impl Values {
+    // Whether the readings of these bits of `ValuesMask` were sent, each of them.
+    pub fn has(self, bits: u32) -> bool
+        ensures { λ r. ⌜ (r ≡ true) ↔ HasBits (self .mask) bits ⌝ }
+    {
+        tables::has_bits(self.mask, bits)
+    }
+}
+
+impl SetupValues {
+    // Whether the readings of these bits of `ValuesSetupMask` were sent, each of them.
+    pub fn has(self, bits: u32) -> bool
+        ensures { λ r. ⌜ (r ≡ true) ↔ HasBits (self .mask) bits ⌝ }
+    {
+        tables::has_bits(self.mask, bits)
+    }
+}
+
+impl Stats {
+    // Whether the readings of these bits of `StatsMask` were sent, each of them. They are 16 bits, as in a query.
+    pub fn has(self, bits: u16) -> bool
+        ensures { λ r. ⌜ (r ≡ true) ↔ HasBits (self .mask) bits ⌝ }
+    {
+        tables::has_bits(self.mask, bits as u32)
+    }
 }
 
 // hS: a signed 16-bit number over a scale.
@@ -99,11 +134,12 @@ fn one_byte(raw: u32) -> u8
     (raw % 256) as u8
 }
 
-// Zeros but for the fault code: an enum field is not stored to, so a record is begun with it.
-fn values_begun(fault: FaultCode) -> Values
-    ensures { λ r. ⌜ r ≡ valuesWith fault [] ⌝ }
+// Zeros but for the mask and the fault code: an enum field is not stored to, so a record is begun with it.
+fn values_begun(mask: u32, fault: FaultCode) -> Values
+    ensures { λ r. ⌜ r ≡ valuesWith mask fault [] ⌝ }
 {
     Values {
+        mask,
         temp_mosfet: 0.0,
         temp_motor: 0.0,
         avg_current_motor: 0.0,
@@ -134,14 +170,14 @@ fn values_begun(fault: FaultCode) -> Values
 pub fn no_values() -> Values
     ensures { λ r. ⌜ r ≡ noValues ⌝ }
 {
-    values_begun(FaultCode::None)
+    values_begun(0, FaultCode::None)
 }
 
-// The record of the raw numbers that the walk over the mask read, a row of the table each.
-pub fn values_of(raw: [u32; format::TABLE_ROWS]) -> Values
-    ensures { λ r. ⌜ r ≡ valuesOf raw ⌝ }
+// The record of a mask, and of the raw numbers that the walk over it read, a row of the table each.
+pub fn values_of(mask: u32, raw: [u32; format::TABLE_ROWS]) -> Values
+    ensures { λ r. ⌜ r ≡ valuesOf mask raw ⌝ }
 {
-    let mut values = values_begun(codes::fault_code(one_byte(raw[15])));
+    let mut values = values_begun(mask, codes::fault_code(one_byte(raw[15])));
     values.temp_mosfet = half_over(raw[0], 10.0);
     values.temp_motor = half_over(raw[1], 10.0);
     values.avg_current_motor = word_over(raw[2], 100.0);
@@ -168,11 +204,12 @@ pub fn values_of(raw: [u32; format::TABLE_ROWS]) -> Values
     values
 }
 
-// Zeros but for the fault code, of GetValuesSetupSelective.
-fn setup_values_begun(fault: FaultCode) -> SetupValues
-    ensures { λ r. ⌜ r ≡ setupValuesWith fault [] ⌝ }
+// Zeros but for the mask and the fault code, of GetValuesSetupSelective.
+fn setup_values_begun(mask: u32, fault: FaultCode) -> SetupValues
+    ensures { λ r. ⌜ r ≡ setupValuesWith mask fault [] ⌝ }
 {
     SetupValues {
+        mask,
         temp_mosfet: 0.0,
         temp_motor: 0.0,
         avg_current_motor: 0.0,
@@ -201,14 +238,14 @@ fn setup_values_begun(fault: FaultCode) -> SetupValues
 pub fn no_setup_values() -> SetupValues
     ensures { λ r. ⌜ r ≡ noSetupValues ⌝ }
 {
-    setup_values_begun(FaultCode::None)
+    setup_values_begun(0, FaultCode::None)
 }
 
 // The record of GetValuesSetupSelective.
-pub fn setup_values_of(raw: [u32; format::TABLE_ROWS]) -> SetupValues
-    ensures { λ r. ⌜ r ≡ setupValuesOf raw ⌝ }
+pub fn setup_values_of(mask: u32, raw: [u32; format::TABLE_ROWS]) -> SetupValues
+    ensures { λ r. ⌜ r ≡ setupValuesOf mask raw ⌝ }
 {
-    let mut values = setup_values_begun(codes::fault_code(one_byte(raw[16])));
+    let mut values = setup_values_begun(mask, codes::fault_code(one_byte(raw[16])));
     values.temp_mosfet = half_over(raw[0], 10.0);
     values.temp_motor = half_over(raw[1], 10.0);
     values.avg_current_motor = word_over(raw[2], 100.0);
@@ -233,10 +270,12 @@ pub fn setup_values_of(raw: [u32; format::TABLE_ROWS]) -> SetupValues
     values
 }
 
-pub fn no_stats() -> Stats
-    ensures { λ r. ⌜ r ≡ noStats ⌝ }
+// Zeros but for the mask.
+fn stats_begun(mask: u32) -> Stats
+    ensures { λ r. ⌜ r ≡ statsOf mask [] ⌝ }
 {
     Stats {
+        mask,
         speed_avg: 0.0,
         speed_max: 0.0,
         power_avg: 0.0,
@@ -251,11 +290,17 @@ pub fn no_stats() -> Stats
     }
 }
 
-// The record of GetStats. A float (F) is sent by its bits.
-pub fn stats_of(raw: [u32; format::TABLE_ROWS]) -> Stats
-    ensures { λ r. ⌜ r ≡ statsOf raw ⌝ }
+pub fn no_stats() -> Stats
+    ensures { λ r. ⌜ r ≡ noStats ⌝ }
 {
-    let mut stats = no_stats();
+    stats_begun(0)
+}
+
+// The record of GetStats. A float (F) is sent by its bits.
+pub fn stats_of(mask: u32, raw: [u32; format::TABLE_ROWS]) -> Stats
+    ensures { λ r. ⌜ r ≡ statsOf mask raw ⌝ }
+{
+    let mut stats = stats_begun(mask);
     stats.speed_avg = floats::f32_from_bits(raw[0]);
     stats.speed_max = floats::f32_from_bits(raw[1]);
     stats.power_avg = floats::f32_from_bits(raw[2]);

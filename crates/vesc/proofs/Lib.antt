@@ -1,2 +1,3 @@
 pub mod PFrames
 pub mod Demands
+pub mod Readings

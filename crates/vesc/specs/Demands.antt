@@ -32,6 +32,8 @@ use Rattle.judge.specs.Good.{idByte, GoodFrame}
 use Rattle.refusals.specs.declared.Consumed.the-variants as Consumed
 use Rattle.reply.specs.Decode.{decodeOf, decoded}
 use Rattle.reply.specs.Nearness.{RecordsNear}
+use Rattle.reply.specs.Records.{RecordsOf}
+use Rattle.tables.specs.Bits.{AskedBits}
 use Rattle.reply.specs.declared.Decoded.{Decoded}
 use Rattle.reply.specs.Reply.{emptyReply}
 use Rattle.reply.specs.declared.CommandReply.{CommandReply}
@@ -42,8 +44,9 @@ use Rattle.decoder.specs.declared.Decoder.{Decoder}
 use Rattle.decoder.specs.declared.Fed.{Fed}
 use Rattle.decoder.specs.declared.GatewayFed.{GatewayFed}
 use Rattle.decoder.specs.declared.Figures.{Figures}
+use Rattle.decoder.specs.declared.Next.{Next}
 use Rattle.decoder.specs.Judge.{decodeJudge}
-use Rattle.decoder.specs.State.{bufferOf, heldOf, figuresOf, FeedIs, takenAnswer, GatewayFeedIs}
+use Rattle.decoder.specs.State.{bufferOf, heldOf, figuresOf, FeedIs, takenAnswer, GatewayFeedIs, NextIs}
 use Rattle.decoder.specs.Runs.{Run, PlainRun, Ends, InUse, Reached, figuresBy}
 use Rattle.decoder.specs.Runs.{gatewayCalls, GatewayRun, PlainGatewayRun, InTurn, GatewayEnds, GatewayReached}
 
@@ -269,3 +272,19 @@ pub record LineFigures : Type 0 where
   pub in-gateway-runs : {pieces ahead : List (List ℕ)} {taken : List ℕ} {replies : List CommandReply} {d : Decoder}
       → GatewayRun pieces ahead taken replies d → (totals : Totals) × GatewayReached totals d
   pub gateway-reached : {totals : Totals} {d : Decoder} → GatewayReached totals d → Reached totals d
+
+-- Which readings were there. Document 02, W1: "The desk cannot tell a battery level of zero from one that was not sent. Put the
+-- mask as received, unknown bits too, into the telemetry records; GetValues shows all 22 bits, and the statistics record gets
+-- its mask too. Every function that makes or shows such a record follows. Demand 2 reads on the other fields as before; the mask
+-- is an added field."
+-- `RecordsOf s reply` (reply/specs/Records.antt) says of each of the three records, over its table: which mask it has; that every
+-- field is what the bytes of s make of it under that mask; and that a field whose bit the mask lacks is zero, a fault code None.
+-- A record that the reply's kind does not carry has mask 0.
+pub record ReadingsThere : Type 0 where
+  -- `decode` of a slice s returned d: a reply, or a refusal with the empty reply
+  pub decode : (s : List ℕ) (d : Decoded) → decoded d ≡ decodeOf s → RecordsOf s (d .reply)
+  -- `next` of a decoder d returned r: a reply in the unread bytes, from some place on, or the empty one
+  pub next : (d : Decoder) (r : Next) → NextIs d r → (place : ℕ) × RecordsOf (drop place (bufferOf d .unread)) (r .reply)
+  -- A record's `has` returns true exactly if its mask has the bits that it is asked for (`HasBits`): the field's own bit if that
+  -- is asked for alone, each of them if several are joined
+  pub asked : AskedBits

@@ -17,6 +17,7 @@ use Rattle.format.specs.Format.{payloadAt}
 use Rattle.layout.specs.Layout.{raws}
 use Rattle.layout.specs.Replies.{selective}
 use Rattle.telemetry.specs.Telemetry.{valuesOf}
+use Rattle.telemetry.specs.declared.Values.{Values}
 use Rattle.reply.specs.Reply.{kindNumber}
 use Rattle.reply.specs.Decode.{decodeOf}
 
@@ -30,9 +31,12 @@ pub data Row : Type 0 where
   -- of the selective frame of a slice: the raw numbers of rpm and voltage_in, and what they are over 1 and 10
   reads : List ℕ → ℕ → ℕ → Row
 
--- the numbers of the fields of a selective frame
-abbrev pub selectiveRaws : List ℕ → List ℕ
-selectiveRaws slice = raws selective (drop payloadAt slice) 1 .0 .1
+-- the mask of a selective frame, and the numbers of its fields
+abbrev pub selectiveRaws : List ℕ → ℕ × List ℕ
+selectiveRaws slice = raws selective (drop payloadAt slice) 1 .0
+
+abbrev pub selectiveValues : List ℕ → Values
+selectiveValues slice = valuesOf (selectiveRaws slice .0) (selectiveRaws slice .1)
 
 -- what a row claims
 abbrev pub Claimed : Row → Type 0
@@ -41,10 +45,10 @@ Claimed (encodes command room answer after) =
 Claimed (carries command payload) = bytesOf command ≡ payload
 Claimed (decodes slice answer id) = (decodeOf slice .answer ≡ answer) × (kindNumber (decodeOf slice .reply .kind) ≡ id)
 Claimed (reads slice rpm voltage) =
-    (getD (selectiveRaws slice) 7 0 ≡ rpm)
-    × (getD (selectiveRaws slice) 8 0 ≡ voltage)
-    × (valuesOf (selectiveRaws slice) .rpm ≡ overScale (pos rpm) (ofInt binary32 (pos 1)))
-    × (valuesOf (selectiveRaws slice) .«voltage_in» ≡ overScale (pos voltage) (ofInt binary32 (pos 10)))
+    (getD (selectiveRaws slice .1) 7 0 ≡ rpm)
+    × (getD (selectiveRaws slice .1) 8 0 ≡ voltage)
+    × (selectiveValues slice .rpm ≡ overScale (pos rpm) (ofInt binary32 (pos 1)))
+    × (selectiveValues slice .«voltage_in» ≡ overScale (pos voltage) (ofInt binary32 (pos 10)))
 
 abbrev pub All : List Row → Type 0
 All [] = Unit {0}

@@ -28,9 +28,10 @@ unfolding blankOf getStatsOf raws rawOf
 returns c =
     let payload = c .before .before .before .before .before .args .payload .now in
     let read = c .before .before in
+    let mask = read .before .word-at .result in
     let numbers =
-    ap statsOf (read .unpack-fields .ensures) ∙ stats-padded (numbersAt (widths (read .before .word-at .result) statsTable) payload 5)
-    ∙ ap (λ (mask : ℕ). statsOf (numbersAt (widths mask statsTable) payload 5)) (read .before .word-at .ensures) in
+    ap (statsOf mask) (read .unpack-fields .ensures) ∙ stats-padded mask (numbersAt (widths mask statsTable) payload 5)
+    ∙ ap (λ (m : ℕ). statsOf m (numbersAt (widths m statsTable) payload 5)) (read .before .word-at .ensures) in
     λ i. record {
       kind = c .before .blank .ensures i .kind;
       values = c .before .blank .ensures i .values;

@@ -21,7 +21,7 @@ returns : tie.Need-returns
 unfolding getValuesSelectiveOf raws rawOf
 returns c =
     c .with-values .ensures
-    ∙ ap (λ (mask : ℕ). withValues GetValuesSelective (valuesOf (numbersAt (widths mask valuesTable) (c .before .before .before .args .payload .now) 5))) (c .before .word-at .ensures)
+    ∙ ap (λ (mask : ℕ). withValues GetValuesSelective (valuesOf mask (numbersAt (widths mask valuesTable) (c .before .before .before .args .payload .now) 5))) (c .before .word-at .ensures)
 
 pub unpack-get-values-selective-spec : {M : Type 1} → statement M
 unpack-get-values-selective-spec =

@@ -28,9 +28,10 @@ unfolding blankOf getValuesSetupSelectiveOf raws rawOf
 returns c =
     let payload = c .before .before .before .before .before .args .payload .now in
     let read = c .before .before in
+    let mask = read .before .word-at .result in
     let numbers =
-    ap setupValuesOf (read .unpack-fields .ensures) ∙ setup-padded (numbersAt (widths (read .before .word-at .result) setupTable) payload 5)
-    ∙ ap (λ (mask : ℕ). setupValuesOf (numbersAt (widths mask setupTable) payload 5)) (read .before .word-at .ensures) in
+    ap (setupValuesOf mask) (read .unpack-fields .ensures) ∙ setup-padded mask (numbersAt (widths mask setupTable) payload 5)
+    ∙ ap (λ (m : ℕ). setupValuesOf m (numbersAt (widths m setupTable) payload 5)) (read .before .word-at .ensures) in
     λ i. record {
       kind = c .before .blank .ensures i .kind;
       values = c .before .blank .ensures i .values;

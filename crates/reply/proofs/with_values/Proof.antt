@@ -21,7 +21,7 @@ unfolding blankOf
 returns c =
     λ i. record {
       kind = c .before .blank .ensures i .kind;
-      values = (c .values-of .ensures ∙ ap valuesOf (c .before .before .unpack-fields .ensures) ∙ values-padded _) i;
+      values = (c .values-of .ensures ∙ ap (valuesOf _) (c .before .before .unpack-fields .ensures) ∙ values-padded _ _) i;
       «setup_values» = c .before .blank .ensures i .«setup_values»;
       stats = c .before .blank .ensures i .stats;
       «fw_version» = c .before .blank .ensures i .«fw_version»;

@@ -13,9 +13,10 @@ returns : tie.Need-returns
 unfolding setupValuesWith setupValuesOf ofInt ofBits
 returns c =
     let begun = c .before .before .before .before .before .before .before .before .before .before .before .before .before .before .before .before .before .before .before in
-    let raw = begun .before .before .before .args .t1 in
+    let raw = begun .before .before .before .args .t2 in
     λ i.
     record {
+      mask = ap (λ (v : SetupValues). v .mask) (begun .setup-values-begun .ensures) i;
       «temp_mosfet» = (c .before .before .before .before .before .before .before .before .before .before .before .before .before .before .before .before .before .before .half-over .ensures) i;
       «temp_motor» = (c .before .before .before .before .before .before .before .before .before .before .before .before .before .before .before .before .before .half-over2 .ensures) i;
       «avg_current_motor» = (c .before .before .before .before .before .before .before .before .before .before .before .before .before .before .before .before .word-over .ensures) i;

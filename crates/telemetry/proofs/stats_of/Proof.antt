@@ -1,4 +1,6 @@
 -- `telemetry::stats_of` meets its contract: each field is what its own store left.
+use mathlib.Core.Path.{ap}
+use Rattle.telemetry.specs.declared.Stats.{Stats}
 use Rattle.telemetry.specs.Telemetry.{statsOf}
 use Rattle.telemetry.proofs.Rows.{row, free}
 use Rattle.telemetry.proofs.stats_of.Statement.{statement}
@@ -9,6 +11,7 @@ unfolding statsOf
 returns c =
     λ i.
     record {
+      mask = ap (λ (v : Stats). v .mask) (c .before .before .before .before .before .before .before .before .before .before .before .stats-begun .ensures) i;
       «speed_avg» = (c .before .before .before .before .before .before .before .before .before .before .f32-from-bits .ensures) i;
       «speed_max» = (c .before .before .before .before .before .before .before .before .before .f32-from-bits2 .ensures) i;
       «power_avg» = (c .before .before .before .before .before .before .before .before .f32-from-bits3 .ensures) i;

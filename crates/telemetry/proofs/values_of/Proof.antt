@@ -14,6 +14,7 @@ returns c =
     let begun = c .before .before .before .before .before .before .before .before .before .before .before .before .before .before .before .before .before .before .before .before .before .before .before in
     λ i.
     record {
+      mask = ap (λ (v : Values). v .mask) (begun .values-begun .ensures) i;
       «temp_mosfet» = (c .before .before .before .before .before .before .before .before .before .before .before .before .before .before .before .before .before .before .before .before .before .before .half-over .ensures) i;
       «temp_motor» = (c .before .before .before .before .before .before .before .before .before .before .before .before .before .before .before .before .before .before .before .before .before .half-over2 .ensures) i;
       «avg_current_motor» = (c .before .before .before .before .before .before .before .before .before .before .before .before .before .before .before .before .before .before .before .before .word-over .ensures) i;
