@@ -6,8 +6,10 @@ use vesc::Consumed;
 use vesc::Decoder;
 use vesc::Encoded;
 use vesc::Kind;
+use vesc::StatsMask;
 use vesc::Taken;
 use vesc::ValuesMask;
+use vesc::ValuesSetupMask;
 
 fn say(what: &[u8], number: u64) {
     let ok = io::write_all(STDOUT_FILENO, what)
@@ -70,6 +72,30 @@ fn decoding(received: &[u8]) {
             }
         }
         Consumed::Refused(e) => say(b"refusal ", e.number() as u64),
+    }
+}
+
+// A level of 0 is a flat pack only if it was sent.
+fn battery(received: &[u8]) {
+    let decoded = vesc::decode(received);
+    let reply = decoded.reply;
+    let values = reply.setup_values;
+    if values.has(ValuesSetupMask::BATTERY_LEVEL) {
+        say_field(b"battery level in percent: ", values.battery_level * 100.0);
+    } else {
+        say(b"no battery level, mask ", values.mask as u64);
+    }
+}
+
+fn seconds(received: &[u8]) {
+    let decoded = vesc::decode(received);
+    let reply = decoded.reply;
+    let stats = reply.stats;
+    if stats.has(StatsMask::COUNT_TIME) {
+        say_field(b"seconds counted: ", stats.count_time);
+    }
+    if !stats.has(StatsMask::COUNT_TIME | StatsMask::SPEED_AVG) {
+        say(b"not both, mask ", stats.mask as u64);
     }
 }
 
@@ -170,6 +196,9 @@ fn main() {
     );
     decoding(&[2, 1, 129, 129, 169, 3]);
     decoding(&[2, 1, 129, 129, 168, 3]);
+    battery(&[2, 7, 51, 0, 0, 1, 0, 0, 0, 247, 187, 3]);
+    battery(&[2, 7, 51, 0, 0, 0, 128, 1, 176, 46, 191, 3]);
+    seconds(&[2, 9, 128, 255, 255, 4, 0, 66, 200, 0, 0, 132, 143, 3]);
     let decoder = received(Decoder::new(), &[255, 2, 1, 129]);
     let after = received(decoder, &[129, 169, 3, 2, 1]);
     charted(after);

@@ -28,6 +28,7 @@ fn answer(text: &mut [u8], line: Line, letter: u8, case: &[u8], stream: &[u8]) -
         b'c' => commands::case(text, line, case),
         b'r' => replies::case(text, line, case),
         b'M' => masks::case(text, line),
+        b'H' => masks::asked(text, line, case),
         b'X' => unpackers::case(text, line, case),
         b'Y' => unpackers::in_a_row(text, line, case),
         b'T' => reads::name_text(text, line, case),

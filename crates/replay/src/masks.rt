@@ -1,9 +1,11 @@
-// The case of the masks: every constant of the three, in the order of the bits.
+// The case of the masks: every constant of the three, in the order of the bits. And a record's mask asked for bits: the sort
+// of record (a byte), the mask and the bits (four bytes each).
 use crate::shows;
 use crate::shows::Line;
 use command::StatsMask;
 use command::ValuesMask;
 use command::ValuesSetupMask;
+use packer::UnpackedU32;
 
 fn words(text: &mut [u8], line: Line, words: &[u32]) -> Line {
     let mut now = line;
@@ -80,4 +82,46 @@ pub(crate) fn case(text: &mut [u8], line: Line) -> Line {
     let mut now = words(text, line, &values);
     now = words(text, now, &setup_values);
     words(text, now, &stats)
+}
+
+fn word_at(case: &[u8], pos: usize) -> u32 {
+    match packer::unpack_u32(case, pos) {
+        UnpackedU32::Got(word, _) => word,
+        UnpackedU32::Refused(_) => 0,
+    }
+}
+
+fn values_have(mask: u32, bits: u32) -> bool {
+    let mut values = telemetry::no_values();
+    values.mask = mask;
+    values.has(bits)
+}
+
+fn setup_values_have(mask: u32, bits: u32) -> bool {
+    let mut values = telemetry::no_setup_values();
+    values.mask = mask;
+    values.has(bits)
+}
+
+fn stats_have(mask: u32, bits: u32) -> bool {
+    let mut stats = telemetry::no_stats();
+    stats.mask = mask;
+    stats.has((bits % 65536) as u16)
+}
+
+pub(crate) fn asked(text: &mut [u8], line: Line, case: &[u8]) -> Line {
+    if case.len() < 9 {
+        return shows::cut_short(text, line);
+    }
+    let mask = word_at(case, 1);
+    let bits = word_at(case, 5);
+    let has = match case[0] {
+        0 => values_have(mask, bits),
+        1 => setup_values_have(mask, bits),
+        _ => stats_have(mask, bits),
+    };
+    if has {
+        return shows::say(text, line, b" yes");
+    }
+    shows::say(text, line, b" no")
 }

@@ -25,9 +25,10 @@ fn byte(value: u8) -> u32 {
     value as u32
 }
 
-fn of_values(v: Values) -> [u32; 24] {
+fn of_values(v: Values) -> [u32; 25] {
     let fault = v.fault_code;
     [
+        v.mask,
         bits(v.temp_mosfet),
         bits(v.temp_motor),
         bits(v.avg_current_motor),
@@ -55,9 +56,10 @@ fn of_values(v: Values) -> [u32; 24] {
     ]
 }
 
-fn of_setup_values(v: SetupValues) -> [u32; 22] {
+fn of_setup_values(v: SetupValues) -> [u32; 23] {
     let fault = v.fault_code;
     [
+        v.mask,
         bits(v.temp_mosfet),
         bits(v.temp_motor),
         bits(v.avg_current_motor),
@@ -83,8 +85,9 @@ fn of_setup_values(v: SetupValues) -> [u32; 22] {
     ]
 }
 
-fn of_stats(s: Stats) -> [u32; 11] {
+fn of_stats(s: Stats) -> [u32; 12] {
     [
+        s.mask,
         bits(s.speed_avg),
         bits(s.speed_max),
         bits(s.power_avg),

@@ -53,9 +53,9 @@ kept : (bits mask : ℕ) → HasBits mask bits → bitAnd mask bits ≡ bits
 kept =
     bin-ind (λ (n : ℕ). (mask : ℕ) → HasBits mask n → bitAnd mask n ≡ n) (λ mask h. and-zero-r mask)
     (λ n ih mask h.
-        and-step mask n
-        ∙ ap₂ (λ (x y : ℕ). x * 2 + y) (ih (mask / 2) (λ k e. sym (half-bit mask k) ∙ h (suc k) (half-bit n k ∙ e))) (min-eq-right (low-bit mask n (h 0)))
-        ∙ div-add-mod' n 2)
+    and-step mask n
+    ∙ ap₂ (λ (x y : ℕ). x * 2 + y) (ih (mask / 2) (λ k e. sym (half-bit mask k) ∙ h (suc k) (half-bit n k ∙ e))) (min-eq-right (low-bit mask n (h 0)))
+    ∙ div-add-mod' n 2)
 
 held : (mask bits : ℕ) → bitAnd mask bits ≡ bits → HasBits mask bits
 held mask bits e k has =
@@ -118,6 +118,11 @@ module _ (a b k : ℕ) where
       go false f =
           right (is-set b k (omega (arith, set (bitOr a b) k e, either, or-add-and x y, eqb-false x 1 f, digit (a / 2 ^ k), digit (b / 2 ^ k))))
 
+same-answer : {P : Type 0} (a b : Bool) → (a ≡ true) ↔ P → (b ≡ true) ↔ P → a ≡ b
+same-answer true b first second = sym (second .1 (first .0 refl))
+same-answer false true first second = first .1 (second .0 refl)
+same-answer false false first second = refl
+
 pub asked-bits : AskedBits
 asked-bits =
     record {
@@ -129,4 +134,5 @@ asked-bits =
         λ h. (λ k e. h k (or-left a b k e), λ k e. h k (or-right a b k e)),
         λ h k e. or-either a b k e (h .0 k) (h .1 k),
       );
+      answer = λ mask bits. same-answer;
     }

@@ -1,5 +1,5 @@
 -- Asking a mask for bits. A query is made with named bits, each a power of 2, that a caller joins by `|`; a record's mask is asked by the same.
-use mathlib.Core.Bool.{true}
+use mathlib.Core.Bool.{Bool, true}
 use mathlib.Core.Logic.{_↔_}
 use mathlib.Core.Path.{_≡_}
 use Prim.Native.Nat.{ℕ, _^_}
@@ -15,3 +15,5 @@ pub record AskedBits : Type 0 where
   pub one : (mask bit : ℕ) → HasBits mask (2 ^ bit) ↔ (hasBit mask bit ≡ true)
   -- several, joined by `|`
   pub joined : (mask a b : ℕ) → HasBits mask (bitOr a b) ↔ (HasBits mask a × HasBits mask b)
+  -- and asking has one answer
+  pub answer : (mask bits : ℕ) (a b : Bool) → (a ≡ true) ↔ HasBits mask bits → (b ≡ true) ↔ HasBits mask bits → a ≡ b

@@ -99,7 +99,7 @@ empty sort s start =
     let is = no-record sort in
     let raws = numbersAt (widths 0 (tableOf sort)) s start in
     let row : (k : ℕ) → k < length (tableOf sort) → fieldIn (noRecord sort) k ≡ fieldAt (tableOf sort) [] k =
-        λ k inside. ap (λ (r : ByTable). fieldIn r k) is ∙ field-value sort 0 [] k inside in
+    λ k inside. ap (λ (r : ByTable). fieldIn r k) is ∙ field-value sort 0 [] k inside in
     record {
       mask = ap (λ (r : ByTable). r .mask) is ∙ record-mask sort 0 [];
       fields = λ k inside.

@@ -88,28 +88,28 @@ pub struct Stats {
 
 impl Values {
     // Whether the readings of these bits of `ValuesMask` were sent, each of them.
-    pub fn has(self, bits: u32) -> bool
-        ensures { λ r. ⌜ (r ≡ true) ↔ HasBits (self .mask) bits ⌝ }
+    pub fn has(self, values_bits: u32) -> bool
+        ensures { λ r. ⌜ (r ≡ true) ↔ HasBits (self .mask) «values_bits» ⌝ }
     {
-        tables::has_bits(self.mask, bits)
+        tables::has_bits(self.mask, values_bits)
     }
 }
 
 impl SetupValues {
     // Whether the readings of these bits of `ValuesSetupMask` were sent, each of them.
-    pub fn has(self, bits: u32) -> bool
-        ensures { λ r. ⌜ (r ≡ true) ↔ HasBits (self .mask) bits ⌝ }
+    pub fn has(self, setup_bits: u32) -> bool
+        ensures { λ r. ⌜ (r ≡ true) ↔ HasBits (self .mask) «setup_bits» ⌝ }
     {
-        tables::has_bits(self.mask, bits)
+        tables::has_bits(self.mask, setup_bits)
     }
 }
 
 impl Stats {
     // Whether the readings of these bits of `StatsMask` were sent, each of them. They are 16 bits, as in a query.
-    pub fn has(self, bits: u16) -> bool
-        ensures { λ r. ⌜ (r ≡ true) ↔ HasBits (self .mask) bits ⌝ }
+    pub fn has(self, stats_bits: u16) -> bool
+        ensures { λ r. ⌜ (r ≡ true) ↔ HasBits (self .mask) «stats_bits» ⌝ }
     {
-        tables::has_bits(self.mask, bits as u32)
+        tables::has_bits(self.mask, stats_bits as u32)
     }
 }
 

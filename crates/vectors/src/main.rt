@@ -1,8 +1,10 @@
 // Runs the vectors that document 01 wants run, and prints what comes: the catalogue's check value of
 // CRC-16/XMODEM, the two readings past 2^24, the frames that it does not mark P and its worked stream.
-// An encode behind a million hops is added, and states that are handed to the gateway feed (document 02, W12).
+// An encode behind a million hops is added, states that are handed to the gateway feed (document 02, W12), and the masks
+// of telemetry records (W1).
 mod frames;
 mod handed;
+mod masks;
 mod says;
 mod worked;
 
@@ -32,4 +34,5 @@ fn main() {
     frames::name_in_fw_info();
     worked::stream();
     handed::states();
+    masks::records();
 }

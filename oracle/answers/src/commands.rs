@@ -5,6 +5,8 @@
 //! The answer: `given COUNT` or `refused NUMBER`, and a digest of the whole buffer after the call. Where the Rust refuses, its buffer is
 //! not compared and the untouched one stands in; where the payload is over 255 bytes, `refused 6` stands for its wrapped length (document 01).
 //! The case of the masks, letter M, has no bytes; its answer is every constant of the three, in the order of the bits.
+//! A mask asked for bits, letter H: the sort of record (0 values, 1 setup values, else statistics), the mask and the bits (four bytes each). The
+//! answer is `yes` or `no`, the Rust's `contains`; of statistics the lowest 16 bits are asked for, and the mask has no others in the Rust.
 
 use crate::answer::Answer;
 use crate::{Block, Random};
@@ -89,6 +91,53 @@ pub fn masks(answer: &mut Answer) {
     }
 }
 
+pub fn asked(answer: &mut Answer, case: &[u8]) {
+    if case.len() < 9 {
+        return answer.cut_short();
+    }
+    let word = |at: usize| u32::from_be_bytes(case[at..at + 4].try_into().unwrap());
+    let (mask, bits) = (word(1), word(5));
+    let has = match case[0] {
+        0 => ValuesMask::from_bits_retain(mask).contains(ValuesMask::from_bits_retain(bits)),
+        1 => ValuesSetupMask::from_bits_retain(mask).contains(ValuesSetupMask::from_bits_retain(bits)),
+        _ => StatsMask::from_bits_retain(mask as u16).contains(StatsMask::from_bits_retain(bits as u16)),
+    };
+    answer.say("outcome", if has { "yes" } else { "no" });
+}
+
+fn ask(block: &mut Block, sort: u8, mask: u32, bits: u32) {
+    let mut case = vec![sort];
+    case.extend(mask.to_be_bytes());
+    case.extend(bits.to_be_bytes());
+    block.case(b'H', &case);
+}
+
+/// Each bit of a mask alone, of masks that have it alone, have all but it, or have all or none.
+fn each_bit(block: &mut Block) {
+    for sort in 0..3 {
+        for bit in 0..32 {
+            for mask in [1 << bit, !(1 << bit), u32::MAX, 0, 0x003F_FFFF] {
+                ask(block, sort, mask, 1 << bit);
+            }
+        }
+    }
+}
+
+/// Fresh random ones: some bits of the mask, some of those with one that it may lack, or any.
+pub fn some_asked(block: &mut Block, random: &mut Random, count: usize) {
+    for _ in 0..count {
+        let mask = random.next() as u32;
+        let bits = match random.below(4) {
+            0 => mask & random.next() as u32,
+            1 => mask & random.next() as u32 | 1 << random.below(32),
+            2 => 1 << random.below(32),
+            _ => random.next() as u32,
+        };
+        let sort = random.below(3) as u8;
+        ask(block, sort, mask, bits);
+    }
+}
+
 pub fn encode(block: &mut Block, place: u8, bits: u32, room: usize, hops: &[u8]) {
     let mut case = vec![place];
     case.extend(bits.to_be_bytes());
@@ -127,6 +176,7 @@ pub fn block() -> Block {
     let mut block = Block::default();
     let mut random = Random(0x5EED_0003);
     block.case(b'M', &[]);
+    each_bit(&mut block);
     for place in 0..COMMANDS {
         for bits in ends(place) {
             for count in [0usize, 1, 2] {

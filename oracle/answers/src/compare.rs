@@ -130,8 +130,9 @@ fn number<T: std::str::FromStr>(text: &str, what: &str) -> T {
 
 fn reads(block: &mut Block, random: &mut Random, count: usize) {
     block.case(b'M', &[]);
-    numbers::some(block, random, count - 1 - count / 4);
+    numbers::some(block, random, count - 1 - count / 4 - count / 20);
     unpackers::some(block, random, count / 4);
+    commands::some_asked(block, random, count / 20);
 }
 
 /// What was measured of the lateness, where it was.

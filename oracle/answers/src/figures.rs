@@ -23,20 +23,20 @@ impl Figured {
         count
     }
 
-    /// The reply, if one is given, and the bytes of its frame.
-    pub fn next(&mut self) -> (Option<CommandReply>, usize) {
+    /// The reply, if one is given, and its frame.
+    pub fn next(&mut self) -> (Option<CommandReply>, Vec<u8>) {
         let (start, before) = (self.decoder.rpos(), self.decoder.unread().to_vec());
         let reply = self.decoder.next();
         let moved = self.decoder.rpos() - start;
-        let mut count = 0;
+        let mut frame = vec![];
         if reply.is_some() {
             // the frame that was given is the one that ends where the reading now stands
-            let ends = |p: &usize| crate::decode(&before[*p..]).ok().map(|(n, _)| n).filter(|n| p + n == moved);
-            count = (0..moved).find_map(|p| ends(&p)).unwrap_or(0);
+            let ends = |p: &usize| crate::decode(&before[*p..]).is_ok_and(|(n, _)| p + n == moved);
+            frame = (0..moved).find(ends).map_or(vec![], |p| before[p..moved].to_vec());
         }
-        self.handed += count as u64;
-        self.passed += (moved - count) as u64;
-        (reply, count)
+        self.handed += frame.len() as u64;
+        self.passed += (moved - frame.len()) as u64;
+        (reply, frame)
     }
 
     pub fn figures(&self) -> [(&'static str, u64); 5] {

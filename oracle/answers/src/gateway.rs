@@ -59,10 +59,10 @@ impl Marked {
         Ok(count)
     }
 
-    /// The reply, if one is given, and the bytes of its frame.
-    pub fn next(&mut self) -> (Option<CommandReply>, usize) {
-        let (reply, count) = self.figured.next();
+    /// The reply, if one is given, and its frame.
+    pub fn next(&mut self) -> (Option<CommandReply>, Vec<u8>) {
+        let (reply, frame) = self.figured.next();
         self.drained = reply.is_none();
-        (reply, count)
+        (reply, frame)
     }
 }

@@ -53,13 +53,13 @@ fn one_by_one(stream: &[u8]) -> Vec<Given> {
     for (k, byte) in stream.iter().enumerate() {
         line.feed(&[*byte]);
         loop {
-            let (reply, size) = line.next();
+            let (reply, frame) = line.next();
             let read = k + 1 - line.decoder.unread().len();
             let Some(reply) = reply else {
                 waited = read;
                 break;
             };
-            let place = read - size;
+            let (place, size) = (read - frame.len(), frame.len());
             all.push(Given { frame: Read { place, size, reply }, late: k + 1 - place, behind: place.saturating_sub(waited) });
         }
     }

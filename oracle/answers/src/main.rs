@@ -78,6 +78,7 @@ pub fn answer_to(letter: u8, case: &[u8], stream: &[u8], whole: bool) -> Answer 
         b'c' => commands::answer(&mut answer, case),
         b'r' => replies::answer(&mut answer, case),
         b'M' => commands::masks(&mut answer),
+        b'H' => commands::asked(&mut answer, case),
         b'T' => numbers::text(&mut answer, case),
         b'X' => unpackers::answer(&mut answer, case),
         b'Y' => unpackers::in_a_row(&mut answer, case),
@@ -131,7 +132,7 @@ fn faults() -> Block {
     let mut block = Block::default();
     block.case(b'?', &[]);
     block.case(b'Z', &[1, 2, 3]);
-    for letter in *b"bsutihwFnmdBSUIWXY" {
+    for letter in *b"bsutihwFnmdBSUIWXYH" {
         block.case(letter, &[0x3F, 0x80, 0]);
     }
     for letter in *b"BSUIW" {

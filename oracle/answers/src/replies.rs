@@ -4,12 +4,14 @@
 //! The digest takes in a whole reply as our struct has it: the kind's id, then every field of all five records as a word of 32 bits, in the
 //! order of the Rust's structs (a float by its bits, any NaN as 7fc00000; a flag as 0 or 1; an enum by its number; each byte of a name
 //! or uuid as a word). The records of other kinds, and all of them on a refusal, hold zeros, and the kind is then 0 (document 01).
+//! In front of a telemetry record stands its mask, which the Rust does not keep (document 02, W1): it is taken from the frame's own bytes.
 
 use crate::answer::Answer;
 use crate::{Block, Random, number};
 use vesc::{CommandReply, DecodeError, FwInfo, FwVersion, HwType, NrfFlags, QmlAppFlags, QmlHw, SetupValues, Stats, Values};
 
-fn of_values(a: &mut Answer, v: &Values) {
+fn of_values(a: &mut Answer, mask: u32, v: &Values) {
+    a.word("values.mask", mask);
     a.float("values.temp_mosfet", v.temp_mosfet);
     a.float("values.temp_motor", v.temp_motor);
     a.float("values.avg_current_motor", v.avg_current_motor);
@@ -36,7 +38,8 @@ fn of_values(a: &mut Answer, v: &Values) {
     a.byte("values.status", v.status);
 }
 
-fn of_setup_values(a: &mut Answer, v: &SetupValues) {
+fn of_setup_values(a: &mut Answer, mask: u32, v: &SetupValues) {
+    a.word("setup_values.mask", mask);
     a.float("setup_values.temp_mosfet", v.temp_mosfet);
     a.float("setup_values.temp_motor", v.temp_motor);
     a.float("setup_values.avg_current_motor", v.avg_current_motor);
@@ -61,7 +64,8 @@ fn of_setup_values(a: &mut Answer, v: &SetupValues) {
     a.word("setup_values.uptime_ms", v.uptime_ms);
 }
 
-fn of_stats(a: &mut Answer, v: &Stats) {
+fn of_stats(a: &mut Answer, mask: u32, v: &Stats) {
+    a.word("stats.mask", mask);
     a.float("stats.speed_avg", v.speed_avg);
     a.float("stats.speed_max", v.speed_max);
     a.float("stats.power_avg", v.power_avg);
@@ -136,20 +140,29 @@ pub fn id(reply: &CommandReply) -> u8 {
     }
 }
 
-/// A whole reply, or the one that stands where there is none.
-pub fn whole(a: &mut Answer, reply: Option<&CommandReply>) {
+/// The four bytes behind a frame's id. A masked frame has them; a wrong variant of the Rust may give a reply for fewer.
+fn received(frame: &[u8]) -> u32 {
+    frame.get(3..7).map_or(0, |mask| u32::from_be_bytes(mask.try_into().unwrap()))
+}
+
+/// Document 02's mask of GetValues, whose frame has none.
+const ALL_VALUES: u32 = 0x3F_FFFF;
+
+/// A whole reply and the frame that it was read from, or the one that stands where there is none.
+pub fn whole(a: &mut Answer, reply: Option<&CommandReply>, frame: &[u8]) {
     a.byte("kind", reply.map_or(0, id));
     match reply {
-        Some(CommandReply::GetValues(v) | CommandReply::GetValuesSelective(v)) => of_values(a, v),
-        _ => of_values(a, &Values::default()),
+        Some(CommandReply::GetValues(v)) => of_values(a, ALL_VALUES, v),
+        Some(CommandReply::GetValuesSelective(v)) => of_values(a, received(frame), v),
+        _ => of_values(a, 0, &Values::default()),
     }
     match reply {
-        Some(CommandReply::GetValuesSetupSelective(v)) => of_setup_values(a, v),
-        _ => of_setup_values(a, &SetupValues::default()),
+        Some(CommandReply::GetValuesSetupSelective(v)) => of_setup_values(a, received(frame), v),
+        _ => of_setup_values(a, 0, &SetupValues::default()),
     }
     match reply {
-        Some(CommandReply::GetStats(v)) => of_stats(a, v),
-        _ => of_stats(a, &Stats::default()),
+        Some(CommandReply::GetStats(v)) => of_stats(a, received(frame), v),
+        _ => of_stats(a, 0, &Stats::default()),
     }
     match reply {
         Some(CommandReply::FwVersion(v)) => of_fw_version(a, v),
@@ -180,7 +193,7 @@ pub fn answer(answer: &mut Answer, slice: &[u8]) {
             }
         }
     }
-    whole(answer, decoded.ok().as_ref().map(|(_, reply)| reply));
+    whole(answer, decoded.ok().as_ref().map(|(_, reply)| reply), slice);
     answer.digest();
 }
 

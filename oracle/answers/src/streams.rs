@@ -64,10 +64,10 @@ impl Run {
 
     fn next(&mut self, answer: &mut Answer) -> bool {
         self.named(answer, "next");
-        let (reply, count) = self.marked.next();
+        let (reply, frame) = self.marked.next();
         answer.flag("given", reply.is_some());
-        answer.wide("count", count as u64);
-        whole(answer, reply.as_ref());
+        answer.wide("count", frame.len() as u64);
+        whole(answer, reply.as_ref(), &frame);
         self.state(answer);
         let given = reply.is_some();
         self.replies.extend(reply);
