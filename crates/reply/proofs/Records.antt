@@ -31,7 +31,7 @@ use Rattle.judge.specs.Good.{GoodFrame}
 use Rattle.judge.proofs.Good.{payload-is, good-parts, id-there, good-frames}
 use Rattle.reply.specs.Reply.{kindNumber, replyWith, blankOf, emptyReply, withValues, withSetupValues, withStats, getValuesOf, getValuesSelectiveOf, getValuesSetupSelectiveOf, getStatsOf, fwVersionReplyOf, fwInfoReplyOf, replyOf}
 use Rattle.reply.specs.Decode.{Decode, replyIn, replyBy, decodeOf, decoded}
-use Rattle.reply.specs.Records.{recordIn, received, masks, RecordsOf}
+use Rattle.reply.specs.Records.{recordIn, received, masks, fieldsAt, RecordsOf}
 use Rattle.reply.specs.declared.Kind.{Kind}
 use Rattle.reply.specs.declared.Kind.the-variants as Kind
 use Rattle.reply.specs.declared.CommandReply.{CommandReply}
@@ -55,9 +55,9 @@ empty = telemetry-records .empty
 -- a reply with no telemetry
 nothing
     : (s : List ℕ) (kind : Kind) (version : FwVersion) (info : FwInfo) (sort : Sort)
-    → RecordHolds sort (masks 0 0 0 sort) s 7 (recordIn sort (replyWith kind noValues noSetupValues noStats version info))
+    → RecordHolds sort (masks 0 0 0 sort) s (fieldsAt kind) (recordIn sort (replyWith kind noValues noSetupValues noStats version info))
 nothing s kind version info =
-    each s 7 (replyWith kind noValues noSetupValues noStats version info) (empty Sort.Values s 7) (empty Sort.SetupValues s 7) (empty Sort.Stats s 7)
+    each s (fieldsAt kind) (replyWith kind noValues noSetupValues noStats version info) (empty Sort.Values s _) (empty Sort.SetupValues s _) (empty Sort.Stats s _)
 
 -- the empty reply, whatever was refused
 pub empty-records : (s : List ℕ) → RecordsOf s emptyReply
