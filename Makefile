@@ -47,7 +47,7 @@ compare: oracle
 	@target/oracle/build/release/answers compare $(SEED) $(DECODES) $(ENCODES) $(SEQUENCES) $(READS) tools/run replay
 	@oracle/lines $(SEED)
 
-# Shows that the same comparison finds wrong variants of the Rust, and of the gateway feed's reference, each by name.
+# Shows that the same comparison finds wrong variants of the Rust, and of the references for the gateway feed and the masks, each by name.
 variants: oracle
 	@mkdir -p target && rt check replay > target/compare.log 2>&1 || { cat target/compare.log >&2; exit 1; }
 	@SEED=$(SEED) oracle/variants $(DECODES) $(ENCODES) $(SEQUENCES) $(READS)

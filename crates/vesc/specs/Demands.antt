@@ -1,7 +1,7 @@
--- The three demands of the person we build for, each with its words, as a record whose fields are the claims.
--- They are claims about whatever meets the contracts of the public functions, and about the definitions that
--- these contracts cite. proofs/Demands.antt proves each record. docs/FORMAT.md has document 01's rules in our
--- words, and the glossary; README.md has the notation.
+-- The three demands of the person we build for, and two of document 02's requests, each with its words, as a record
+-- whose fields are the claims. They are claims about whatever meets the contracts of the public functions, and about
+-- the definitions that these contracts cite. proofs/Demands.antt and proofs/Readings.antt prove each record.
+-- docs/FORMAT.md has document 01's rules in our words, and the glossary; README.md has the notation.
 use mathlib.Core.Path.{_≡_}
 use mathlib.Core.Bool.{Bool, true}
 use mathlib.Core.Logic.{_↔_}
