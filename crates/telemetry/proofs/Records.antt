@@ -1,8 +1,8 @@
 -- A record by its table: each field is its row's value, and one that the mask lacks is zero, because the walk leaves 0 for it and 0 is a zero of each kind.
 use mathlib.Core.Path.{_≡_, refl, sym, ap, _∙_, subst}
-use mathlib.Core.Bool.{Bool, true, false}
+use mathlib.Core.Bool.{true, false}
 use mathlib.Core.List.{List, [], _∷_}
-use Prim.Native.Nat.{ℕ, zero, suc, _+_, _/_, _%_, _^_, _<_}
+use Prim.Native.Nat.{ℕ, zero, suc, _+_, _%_, _^_, _<_}
 use native.Mathlib.Nat.{zero-add, zero-div}
 use native.Mathlib.Omega.{arith}
 use lib.Dec.{eqb}
@@ -97,7 +97,6 @@ no-record Sort.Stats = refl
 empty : (sort : Sort) (s : List ℕ) (start : ℕ) → RecordHolds sort 0 s start (noRecord sort)
 empty sort s start =
     let is = no-record sort in
-    let raws = numbersAt (widths 0 (tableOf sort)) s start in
     let row : (k : ℕ) → k < length (tableOf sort) → fieldIn (noRecord sort) k ≡ fieldAt (tableOf sort) [] k =
     λ k inside. ap (λ (r : ByTable). fieldIn r k) is ∙ field-value sort 0 [] k inside in
     record {

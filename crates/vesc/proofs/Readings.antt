@@ -1,16 +1,16 @@
 -- Which readings were there: of `decode`'s reply, and so of the reply that `next` finds in the unread bytes.
-use mathlib.Core.Path.{_≡_, refl, sym, ap, _∙_, subst}
+use mathlib.Core.Path.{_≡_, refl, sym, ap, subst}
 use mathlib.Core.Bool.{Bool, true, false, cond}
 use mathlib.Core.List.{List, [], _∷_}
-use Prim.Native.Nat.{ℕ, zero, suc}
+use Prim.Native.Nat.{ℕ, suc}
 use lib.ListN.{drop}
 use Rattle.refusals.specs.Refusals.{Answer, ok, refused}
-use Rattle.stream.specs.Reading.{Verdict, notYet, movesOn}
+use Rattle.stream.specs.Reading.{notYet, movesOn}
 use Rattle.stream.specs.Searching.{Search, found, nothing, further, searchAt, search}
 use Rattle.stream.specs.Judging.{verdictOf, isIncompleteData}
 use Rattle.buffer.specs.Buffer.{replyFound, nextReply}
 use Rattle.tables.proofs.Bits.{asked-bits}
-use Rattle.reply.specs.Decode.{Decode, decodeOf, decoded}
+use Rattle.reply.specs.Decode.{Decode, decodeOf}
 use Rattle.reply.specs.Reply.{emptyReply}
 use Rattle.reply.specs.Records.{RecordsOf}
 use Rattle.reply.specs.declared.CommandReply.{CommandReply}
