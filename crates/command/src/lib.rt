@@ -1,13 +1,10 @@
-// Plain commands to a VESC motor controller, as bytes of a payload. Ports the first half of src/command.rs without
-// `encode`: ids, masks, commands and `pack_into`; document 01, "Commands".
+// Plain commands to a VESC motor controller, as a caller gives them. Ports the first half of src/command.rs without
+// `encode`: masks, commands and `pack_into`; document 01, "Commands". Their ids and bytes are in crate `raw_command`.
 ghost use mathlib.Core.Path.{_≡_};
-ghost use Prim.Native.Nat.{_≤_};
-ghost use Rattle.floats.specs.Numbers.{timesScale};
 ghost use Rattle.packer.specs.Packing.{PackIs};
-ghost use Rattle.command.specs.Commands.{flagByte, wholeNumber, PartsIs, bytesOf, sizeOf};
-use format::CommandId;
+ghost use Rattle.command.specs.Commands.{rawOf, bytesOf, sizeOf};
 use packer::Packed;
-use refusals::EncodeError;
+use raw_command::RawCommand;
 
 mod masks;
 
@@ -58,82 +55,39 @@ pub enum Command {
     MotorEstop(u16),
 }
 
-// A plain command as it is written: its id, and a number of `width` bytes.
-pub struct Parts {
-    pub id: u8,
-    pub width: usize,
-    pub number: u32,
-}
-
-fn sent(id: u8, width: usize, number: u32) -> Parts
-    ensures { λ r. ⌜ (r .id ≡ id) × (r .width ≡ width) × (r .number ≡ number) ⌝ }
-{
-    Parts { id, width, number }
-}
-
-// A flag as 0 or 1.
-fn flag(set: bool) -> u32
-    ensures { λ r. ⌜ (r ≡ flagByte set) × (r ≤ 1) ⌝ }
-{
-    if set { 1 } else { 0 }
-}
-
-// A value times its scale, as the number that is sent.
-fn scaled(value: f32, scale: f32) -> u32
-    ensures { λ r. ⌜ r ≡ wholeNumber (timesScale value scale) ⌝ }
-{
-    packer::as_u32(floats::unscaled(value, scale))
-}
-
-// The parts of a plain command: the one place where each has its id, its width and its number. Shutdown's two
-// flags are a byte each of one number.
-pub fn parts_of(command: Command) -> Parts
-    ensures { λ r. ⌜ PartsIs command r ⌝ }
+// The command with the whole number that is sent: a value times its scale, toward zero and held.
+pub fn raw_of(command: Command) -> RawCommand
+    ensures { λ r. ⌜ r ≡ rawOf command ⌝ }
 {
     match command {
-        Command::FwVersion => sent(CommandId::FwVersion as u8, 0, 0),
-        Command::GetValues => sent(CommandId::GetValues as u8, 0, 0),
-        Command::SetDuty(duty) => sent(CommandId::SetDuty as u8, 4, scaled(duty, 100000.0)),
-        Command::SetCurrent(current) => sent(
-            CommandId::SetCurrent as u8,
-            4,
-            scaled(current, 1000.0),
-        ),
-        Command::SetCurrentBrake(current) => sent(
-            CommandId::SetCurrentBrake as u8,
-            4,
-            scaled(current, 1000.0),
-        ),
-        Command::SetRpm(rpm) => sent(CommandId::SetRpm as u8, 4, packer::as_u32(rpm)),
-        Command::SetPos(position) => sent(CommandId::SetPos as u8, 4, scaled(position, 1000000.0)),
-        Command::SetHandbrake(current) => sent(
-            CommandId::SetHandbrake as u8,
-            4,
-            scaled(current, 1000.0),
-        ),
-        Command::Reboot => sent(CommandId::Reboot as u8, 0, 0),
-        Command::Alive => sent(CommandId::Alive as u8, 0, 0),
-        Command::GetValuesSelective(mask) => sent(CommandId::GetValuesSelective as u8, 4, mask),
-        Command::GetValuesSetupSelective(mask) => sent(
-            CommandId::GetValuesSetupSelective as u8,
-            4,
-            mask,
-        ),
-        Command::SetCurrentRel(current_rel) => sent(
-            CommandId::SetCurrentRel as u8,
-            4,
-            scaled(current_rel, 100000.0),
-        ),
-        Command::SetOdometer(odometer) => sent(CommandId::SetOdometer as u8, 4, odometer),
-        Command::GetStats(mask) => sent(CommandId::GetStats as u8, 2, mask as u32),
-        Command::ResetStats(ack) => sent(CommandId::ResetStats as u8, 1, flag(ack)),
-        Command::Shutdown(force, restart) => sent(
-            CommandId::Shutdown as u8,
-            2,
-            flag(force) * 256 + flag(restart),
-        ),
-        Command::FwInfo => sent(CommandId::FwInfo as u8, 0, 0),
-        Command::MotorEstop(time) => sent(CommandId::MotorEstop as u8, 2, time as u32),
+        Command::FwVersion => RawCommand::FwVersion,
+        Command::GetValues => RawCommand::GetValues,
+        Command::SetDuty(duty) => RawCommand::SetDuty(floats::unscaled(duty, 100000.0)),
+        Command::SetCurrent(current) => RawCommand::SetCurrent(floats::unscaled(current, 1000.0)),
+        Command::SetCurrentBrake(current) => RawCommand::SetCurrentBrake(floats::unscaled(
+            current,
+            1000.0,
+        )),
+        Command::SetRpm(rpm) => RawCommand::SetRpm(rpm),
+        Command::SetPos(position) => RawCommand::SetPos(floats::unscaled(position, 1000000.0)),
+        Command::SetHandbrake(current) => RawCommand::SetHandbrake(floats::unscaled(
+            current,
+            1000.0,
+        )),
+        Command::Reboot => RawCommand::Reboot,
+        Command::Alive => RawCommand::Alive,
+        Command::GetValuesSelective(mask) => RawCommand::GetValuesSelective(mask),
+        Command::GetValuesSetupSelective(mask) => RawCommand::GetValuesSetupSelective(mask),
+        Command::SetCurrentRel(current_rel) => RawCommand::SetCurrentRel(floats::unscaled(
+            current_rel,
+            100000.0,
+        )),
+        Command::SetOdometer(odometer) => RawCommand::SetOdometer(odometer),
+        Command::GetStats(mask) => RawCommand::GetStats(mask),
+        Command::ResetStats(ack) => RawCommand::ResetStats(ack),
+        Command::Shutdown(force, restart) => RawCommand::Shutdown(force, restart),
+        Command::FwInfo => RawCommand::FwInfo,
+        Command::MotorEstop(time) => RawCommand::MotorEstop(time),
     }
 }
 
@@ -141,24 +95,13 @@ pub fn parts_of(command: Command) -> Parts
 pub fn command_len(command: Command) -> usize
     ensures { λ r. ⌜ r ≡ sizeOf command ⌝ }
 {
-    let parts = parts_of(command);
+    let parts = raw_command::parts_of(raw_of(command));
     1 + parts.width
 }
 
-// A plain command's bytes at a position, its id first. Ports `Command::pack_into`, which leaves the id behind
-// where its value does not fit; this one then writes nothing.
+// A plain command's bytes at a position, its id first: all of them, or none if they do not fit.
 pub fn pack_into(command: Command, buf: &mut [u8], pos: usize) -> Packed
     ensures { λ r. ⌜ PackIs (bytesOf command) (now (buf .entry)) pos r (now (buf .exit)) ⌝ }
 {
-    let parts = parts_of(command);
-    let width = parts.width;
-    let room = buf.len();
-    if room <= width {
-        return Packed::Refused(EncodeError::BufferTooSmall);
-    }
-    if room - width - 1 < pos {
-        return Packed::Refused(EncodeError::BufferTooSmall);
-    }
-    packer::pack_u8(buf, pos, parts.id);
-    packer::pack_be(buf, pos + 1, width, parts.number)
+    raw_command::pack_parts(raw_command::parts_of(raw_of(command)), buf, pos)
 }

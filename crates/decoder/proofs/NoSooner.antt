@@ -9,9 +9,10 @@ use Rattle.refusals.specs.Refusals.{refused, incompleteData, invalidFrame}
 use Rattle.packer.specs.Numbers.{beAt, total}
 use Rattle.packer.specs.Unpacking.{readAt, consumeAt}
 use Rattle.names.specs.Names.{nulWithin}
+use Rattle.frame.specs.Opening.{byteAt, finishOf}
 use Rattle.layout.specs.Layout.{extentOf, extent}
 use Rattle.layout.specs.Replies.{layoutIn, fieldsEnd}
-use Rattle.judge.specs.Judge.{byteAt, finishOf, judgeOf}
+use Rattle.judge.specs.Judge.{judgeOf}
 use Rattle.stream.specs.Reading.{Reading, FrameAt, stops, frameThen, readTurns, readFrom, readAll, repliesOf, joined}
 use Rattle.stream.specs.Lateness.{NoneOver, InTime}
 use Rattle.stream.proofs.Frames.{not-among-none}

@@ -8,20 +8,21 @@ use lib.ListN.{length, drop}
 use Rattle.refusals.specs.declared.EncodeError.{EncodeError}
 use Rattle.refusals.specs.OneAnswer.{ToldApart}
 use Rattle.refusals.proofs.Unique.{told-apart, writeBack, encode-back}
-use Rattle.frame.specs.Frame.{short, frameOf, frameSize}
+use Rattle.frame.specs.Frame.{short, frameOf}
 use Rattle.frame.proofs.Laws.{frame-laws}
-use Rattle.encode.specs.Encode.{encodeAfter, encoded, EncodeIs}
+use Rattle.frame.specs.Wrapping.{wrapAfter}
+use Rattle.encode.specs.Encode.{encoded, EncodeIs}
 use Rattle.encode.specs.Payload.{payloadOf}
 use Rattle.encode.specs.Written.{EncodeWrites}
 use Rattle.encode.specs.OneAnswer.{OneAnswer}
 use Rattle.command.specs.declared.Command.{Command}
 use Rattle.encode.specs.declared.Encoded.{Encoded}
 use Rattle.encode.specs.declared.Encoded.the-variants.{Written, Refused}
-use Rattle.encode.proofs.Tests.{answer-given, after-answer}
+use Rattle.frame.proofs.Wrapped.{answer-given, after-answer}
 
 -- "nothing; buffer unchanged": a refused encode writes nothing, whatever was asked for
 pub refused-writes-nothing : (command : Command) (hops l after : List ℕ) (e : EncodeError) → EncodeIs command hops l (Refused e) after → after ≡ l
-unfolding encodeAfter
+unfolding wrapAfter
 refused-writes-nothing command hops l after e w = w .holds ∙ rw (← w .answer)
 
 -- and a successful one a frame around the payload

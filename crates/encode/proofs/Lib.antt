@@ -1,6 +1,5 @@
 pub mod Puts
 pub mod Payloads
-pub mod Tests
 pub mod Frames
 pub mod Exact
 pub mod Limits

@@ -8,13 +8,13 @@ use Rattle.refusals.specs.Refusals.{ok}
 use Rattle.command.specs.declared.Command.the-variants.{SetRpm, Alive}
 use Rattle.command.proofs.Sizes.{sizes}
 use Rattle.encode.specs.Payload.{payloadOf}
-use Rattle.encode.specs.Encode.{encodeAnswer}
+use Rattle.frame.specs.Wrapping.{wrapAnswer}
 use Rattle.encode.specs.Limits.{HopLimits}
 use Rattle.encode.proofs.Payloads.{payload-length}
-use Rattle.encode.proofs.Tests.{answer-too-long, answer-fits}
+use Rattle.frame.proofs.Wrapped.{answer-too-long, answer-fits}
 
 -- the longest payload passes where there is room
-passes : (n room : ℕ) → n ≡ 255 → 260 ≤ room → encodeAnswer n room ≡ ok 260
+passes : (n room : ℕ) → n ≡ 255 → 260 ≤ room → wrapAnswer n room ≡ ok 260
 passes n room e k = rw e (answer-fits 255 room (omega arith) k)
 
 alive-255 : (hops : List ℕ) → length hops ≡ 127 → length (payloadOf Alive hops) ≡ 255

@@ -3,17 +3,13 @@ ghost use mathlib.Core.Path.{_≡_};
 ghost use mathlib.Core.List.{[], _∷_};
 ghost use Prim.Native.Nat.{_+_, _-_, _*_, _≤_};
 ghost use lib.ListN.{length, drop};
-ghost use Rattle.packer.specs.Numbers.{bigEndian};
-ghost use Rattle.format.specs.Format.{payloadMax};
-ghost use Rattle.frame.specs.Frame.{short, frameOf, frameSize};
 ghost use Rattle.encode.specs.Payload.{hopBytes, payloadOf};
-ghost use Rattle.encode.specs.Encode.{EncodeIs};
+ghost use Rattle.packer.specs.Packing.{packed};
+ghost use Rattle.encode.specs.Encode.{encoded, EncodeIs};
 ghost use Rattle.encode.specs.Writes.{PutIs, placeOf};
 use command::Command;
 use format::CommandId;
-use format::FRAME_END;
 use format::FRAME_EXTRA;
-use format::FRAME_START_SHORT;
 use format::PAYLOAD_AT;
 use format::PAYLOAD_MAX;
 use packer::Packed;
@@ -41,17 +37,21 @@ fn place_after(answer: Packed) -> usize
     }
 }
 
-// The writers of packer, for where there is room.
+// What `wrap` answered, as `encode` answers it.
+fn answered(answer: Packed) -> Encoded
+    ensures { λ r. ⌜ encoded r ≡ packed answer ⌝ }
+{
+    match answer {
+        Packed::Next(count) => Encoded::Written(count),
+        Packed::Refused(e) => Encoded::Refused(e),
+    }
+}
+
+// A byte, for where there is room.
 fn put_u8(buf: &mut [u8], pos: usize, value: u8) -> usize
     ensures { λ r. ⌜ PutIs (value ∷ []) (now (buf .entry)) pos r (now (buf .exit)) ⌝ }
 {
     place_after(packer::pack_u8(buf, pos, value))
-}
-
-fn put_u16(buf: &mut [u8], pos: usize, value: u16) -> usize
-    ensures { λ r. ⌜ PutIs (bigEndian 2 value) (now (buf .entry)) pos r (now (buf .exit)) ⌝ }
-{
-    place_after(packer::pack_u16(buf, pos, value))
 }
 
 // The length of a payload: two bytes for each of the `left` hops not yet counted, and `plain` for the
@@ -89,19 +89,6 @@ fn pack_payload(command: Command, hops: &[u8], buf: &mut [u8], pos: usize) -> us
     place_after(command::pack_into(command, buf, next))
 }
 
-// The frame at the front of a buffer that has room for it; its payload is `len` bytes long.
-fn pack_frame(command: Command, hops: &[u8], len: usize, buf: &mut [u8]) -> usize
-    requires { ⌜ (len ≡ length (payloadOf command (now hops))) × (len ≤ payloadMax) × (frameSize short len ≤ length (now buf)) ⌝ }
-    ensures { λ r. ⌜ PutIs (frameOf short (payloadOf command (now (hops .entry)))) (now (buf .entry)) 0 r (now (buf .exit)) ⌝ }
-{
-    let len_at = put_u8(buf, 0, FRAME_START_SHORT);
-    let payload_at = put_u8(buf, len_at, len as u8);
-    let sum_at = pack_payload(command, hops, buf, payload_at);
-    let sum = checksum::checksum(&buf[PAYLOAD_AT..PAYLOAD_AT + len]);
-    let end_at = put_u16(buf, sum_at, sum);
-    put_u8(buf, end_at, FRAME_END)
-}
-
 // Writes the frame of a command at the front of `buf`. Each of `hops` is a controller that forwards what
 // follows it, the first of them the outermost ForwardCan of the Rust. Ports `encode`, which sets the payload
 // no limit and may leave part of a frame behind where it refuses; this one then writes nothing.
@@ -120,5 +107,6 @@ pub fn encode(command: Command, hops: &[u8], buf: &mut [u8]) -> Encoded
     if buf.len() < frame_len {
         return Encoded::Refused(EncodeError::BufferTooSmall); // refusal 5
     }
-    Encoded::Written(pack_frame(command, hops, len, buf))
+    pack_payload(command, hops, buf, PAYLOAD_AT);
+    answered(frame::wrap(len, buf))
 }

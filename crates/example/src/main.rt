@@ -1,15 +1,17 @@
 // The examples of README.md: the code that it shows stands here, and the gate runs it.
 use libc::STDOUT_FILENO;
-use packer::UnpackedU32;
+use packer::UnpackedI32;
 use vesc::Command;
 use vesc::Consumed;
 use vesc::Decoder;
 use vesc::Encoded;
 use vesc::Kind;
+use vesc::RawCommand;
 use vesc::StatsMask;
 use vesc::Taken;
 use vesc::ValuesMask;
 use vesc::ValuesSetupMask;
+use vesc::WrittenBack;
 
 fn say(what: &[u8], number: u64) {
     let ok = io::write_all(STDOUT_FILENO, what)
@@ -20,25 +22,26 @@ fn say(what: &[u8], number: u64) {
     }
 }
 
-// The whole part of a number that is not negative: it is written as an i32, and read back.
-fn whole(value: f32) -> u64 {
-    let mut four = [0u8; 4];
-    packer::pack_f32(&mut four, 0, value, 1.0);
-    match packer::unpack_u32(&four, 0) {
-        UnpackedU32::Got(number, _) => number as u64,
-        UnpackedU32::Refused(_) => 0,
-    }
-}
-
-// A telemetry field, cut off to a whole number.
-fn say_field(what: &[u8], value: f32) {
-    if value < 0.0 {
+// A whole number with its sign.
+fn say_signed(what: &[u8], number: i32) {
+    let bits = packer::as_u32(number) as u64;
+    if number < 0 {
         if !io::write_all(STDOUT_FILENO, what) {
             os::fail(b"example: standard output");
         }
-        say(b"-", whole(-value));
+        say(b"-", 4294967296 - bits);
     } else {
-        say(what, whole(value));
+        say(what, bits);
+    }
+}
+
+// A telemetry field, cut off to a whole number: it is written as an i32, and read back.
+fn say_field(what: &[u8], value: f32) {
+    let mut four = [0u8; 4];
+    packer::pack_f32(&mut four, 0, value, 1.0);
+    match packer::unpack_i32(&four, 0) {
+        UnpackedI32::Got(number, _) => say_signed(what, number),
+        UnpackedI32::Refused(_) => {}
     }
 }
 
@@ -96,6 +99,41 @@ fn seconds(received: &[u8]) {
     }
     if !stats.has(StatsMask::COUNT_TIME | StatsMask::SPEED_AVG) {
         say(b"not both, mask ", stats.mask as u64);
+    }
+}
+
+fn first_hop(controller: u8) {
+    say(b"first hop to controller ", controller as u64);
+}
+
+// A hop part is 34 and a controller's id by turns. No frame is longer than 260 bytes.
+fn writing_back(hops: &[u8], command: RawCommand) {
+    say(b"hops: ", hops.len() as u64 / 2);
+    if 1 < hops.len() {
+        first_hop(hops[1]);
+    }
+    let mut buf = [0u8; 260];
+    match vesc::write_command(hops, command, &mut buf) {
+        WrittenBack::Written(count) => say(b"bytes written back: ", count as u64),
+        WrittenBack::Refused(e) => say(b"refusal ", e.number() as u64),
+    }
+}
+
+// What stands in for a controller on a bench reads the commands sent to it.
+fn reading(sent: &[u8]) {
+    let read = vesc::read_command(sent);
+    let answer = read.answer;
+    let command = read.command;
+    match answer {
+        Consumed::To(count) => {
+            say(b"bytes of the command frame: ", count as u64);
+            match command {
+                RawCommand::SetCurrent(current) => say_signed(b"milliamperes: ", current),
+                _ => {}
+            }
+            writing_back(vesc::hop_part(sent), command);
+        }
+        Consumed::Refused(e) => say(b"refusal ", e.number() as u64),
     }
 }
 
@@ -199,6 +237,8 @@ fn main() {
     battery(&[2, 7, 51, 0, 0, 1, 0, 0, 0, 247, 187, 3]);
     battery(&[2, 7, 51, 0, 0, 0, 128, 1, 176, 46, 191, 3]);
     seconds(&[2, 9, 128, 255, 255, 4, 0, 66, 200, 0, 0, 132, 143, 3]);
+    reading(&[2, 7, 34, 7, 6, 0, 0, 5, 220, 254, 213, 3]);
+    reading(&[2, 3, 34, 7, 99, 45, 244, 3]);
     let decoder = received(Decoder::new(), &[255, 2, 1, 129]);
     let after = received(decoder, &[129, 169, 3, 2, 1]);
     charted(after);

@@ -6,31 +6,14 @@ use native.Mathlib.Omega.{arith}
 use lib.Dec.{eqb}
 use lib.ListN.{length, getD, drop, length-drop}
 use borrow.Author.Tests.{eqb-true}
-use Rattle.refusals.specs.Refusals.{refused, incompleteData, invalidFrame, checksumMismatch}
-use Rattle.checksum.specs.Xmodem.{checksumOf}
-use Rattle.judge.specs.Judge.{payloadPart, judgeSumOf, finishOf, judgeOf}
-use Rattle.refusals.proofs.Answers.{Known, known-given, known-then, known-unless}
-use Rattle.judge.proofs.Places.{byte-known, byte-given}
-use Rattle.packer.proofs.Kept.{number-known}
+use Rattle.refusals.specs.Refusals.{refused, incompleteData, invalidFrame}
+use Rattle.judge.specs.Judge.{judgeOf}
+use Rattle.refusals.proofs.Answers.{Known, known-then, known-unless}
+use Rattle.frame.proofs.Places.{byte-known, byte-given}
+use Rattle.frame.proofs.Endings.{invalid-differs, finish-known}
 use Rattle.layout.specs.Replies.{fieldsEnd}
 use Rattle.layout.proofs.Readers.{Lawful}
 use Rattle.layout.proofs.Replies.{reads-fields, reads-others}
-
--- InvalidFrame is no IncompleteData
-invalid-differs : invalidFrame .number ≡ 1 → ⊥
-invalid-differs e = omega arith
-
-sum-known : (s : List ℕ) (n expected : ℕ) → Known (judgeSumOf s n expected)
-unfolding judgeSumOf
-sum-known s n expected =
-    known-unless (eqb expected (checksumOf (payloadPart n s))) (checksumMismatch expected (checksumOf (payloadPart n s))) _ (λ e. omega arith) (λ right. known-given (n + 5))
-
-finish-known : (s : List ℕ) (n : ℕ) → n + 5 ≤ length s → Known (finishOf s n)
-unfolding finishOf
-finish-known s n there =
-    known-then _ _ (number-known 2 s (n + 2) (omega arith)) (λ carried first.
-    known-then _ _ (byte-known s (n + 4) (omega arith)) (λ last second.
-    known-unless (eqb last 3) invalidFrame _ invalid-differs (λ right. sum-known s n (carried .0))))
 
 -- as many bytes as the fields of the id there take at the most, and six more, are enough for any judgement
 judge-enough : (width : ℕ) (xs : List ℕ) → Lawful width (fieldsEnd (getD xs 2 0)) → width + 6 ≤ length xs → Known (judgeOf xs)

@@ -2,69 +2,39 @@
 use mathlib.Core.Path.{_≡_, refl, sym, ap, _∙_, subst}
 use mathlib.Core.Logic.{_↔_}
 use mathlib.Core.List.{List, _++_}
-use Prim.Native.Nat.{ℕ, _+_, _≤_, _<_}
+use Prim.Native.Nat.{ℕ, _≤_}
 use native.Mathlib.Omega.{arith}
 use native.Mathlib.Nat.{le-refl}
-use lib.ListN.{length, getD, take, drop, length-drop, take-append-drop, List·getD-append}
+use lib.ListN.{length, getD, drop, length-drop, take-append-drop, List·getD-append}
 use lib.Seq.{length-take-le, getD-take, getD-drop}
 use Rattle.refusals.specs.Refusals.{ok}
 use Rattle.refusals.proofs.Answers.{Known, known-given}
-use Rattle.packer.specs.Numbers.{beAt}
 use Rattle.packer.specs.Nearness.{Bytes}
-use Rattle.frame.specs.Frame.{short, frameOf, frameSize, declared, payloadIn, carried, endByte}
+use Rattle.frame.specs.Frame.{short, frameOf, frameSize, declared, payloadIn}
+use Rattle.frame.specs.Opening.{payloadPart}
 use Rattle.frame.proofs.Laws.{frame-laws}
+use Rattle.frame.proofs.Places.{declared-is, payload-is}
+use Rattle.frame.proofs.Opened.{ended-framed, framed-ended}
 use Rattle.layout.specs.Replies.{fieldsEnd}
 use Rattle.layout.proofs.Replies.{reads-fields}
-use Rattle.judge.specs.Judge.{payloadPart, judgeOf}
+use Rattle.judge.specs.Judge.{judgeOf}
 use Rattle.judge.specs.Good.{idByte, GoodFrame, ReadWhole, Begins, GoodFrames}
 use Rattle.judge.proofs.Parts.{FrameParts, judge-frame, good-judged}
 
 -- ---- the parts, by their places
 
 module _ (s : List ℕ) where
-  pub declared-is : declared short s ≡ getD s 1 0
-  unfolding declared beAt
-  declared-is = omega arith
-
-  pub carried-is : carried short s ≡ beAt s (getD s 1 0 + 2) 2
-  unfolding carried
-  carried-is = ap (λ (at : ℕ). beAt s at 2) (omega (arith, declared-is))
-
-  pub payload-is : payloadIn short s ≡ payloadPart (getD s 1 0) s
-  unfolding payloadIn payloadPart
-  payload-is = ap (λ (n : ℕ). take n (drop 2 s)) declared-is
-
-  pub end-is : endByte short s ≡ getD s (getD s 1 0 + 4) 0
-  unfolding endByte
-  end-is = ap (λ (at : ℕ). getD s at 0) (omega (arith, declared-is))
-
-  pub parts-good : FrameParts s (getD s 1 0) → GoodFrame s
-  parts-good p =
-      record {
-        framed = record {
-          whole = omega (arith, declared-is, p .there);
-          start = p .start;
-          sum = rw (carried-is, payload-is) (p .sum);
-          end = end-is ∙ p .end;
-        };
-        fields = p .fields ∙ ap ok (sym declared-is);
-      }
+  parts-good : FrameParts s (getD s 1 0) → GoodFrame s
+  parts-good p = record { framed = ended-framed s (p .start) (p .ended); fields = p .fields ∙ ap ok (sym (declared-is s)) }
 
   pub good-parts : GoodFrame s → FrameParts s (getD s 1 0)
   good-parts g =
-      record {
-        there = omega (arith, declared-is, g .framed .whole);
-        start = g .framed .start;
-        declared = refl;
-        fields = g .fields ∙ ap ok declared-is;
-        sum = rw (carried-is, payload-is) at (g .framed .sum);
-        end = sym end-is ∙ g .framed .end;
-      }
+      record { start = g .framed .start; declared = refl; fields = g .fields ∙ ap ok (declared-is s); ended = framed-ended s (g .framed) }
 
   good-iff : (count : ℕ) → (judgeOf s ≡ ok count) ↔ (GoodFrame s × (count ≡ frameSize short (declared short s)))
   good-iff count = (
-    λ e. let frame = judge-frame s count e in (parts-good (frame .1), omega (arith, declared-is, frame .0)),
-    λ good. good-judged s (getD s 1 0) (good-parts (good .0)) ∙ ap ok (omega (arith, declared-is, good .1)),
+    λ e. let frame = judge-frame s count e in (parts-good (frame .1), omega (arith, declared-is s, frame .0)),
+    λ good. good-judged s (getD s 1 0) (good-parts (good .0)) ∙ ap ok (omega (arith, declared-is s, good .1)),
   )
 
   -- ---- the payload holds every field
@@ -75,7 +45,7 @@ module _ (s : List ℕ) where
 
     pub payload-length : length (payloadPart (getD s 1 0) s) ≡ getD s 1 0
     unfolding payloadPart
-    payload-length = length-take-le (getD s 1 0) (drop 2 s) (simp length-drop (omega (arith, parts .there)))
+    payload-length = length-take-le (getD s 1 0) (drop 2 s) (simp length-drop (omega (arith, parts .ended .there)))
 
     pub id-there : getD (payloadPart (getD s 1 0) s) 0 0 ≡ getD s 2 0
     unfolding payloadPart
@@ -86,7 +56,7 @@ module _ (s : List ℕ) where
     pub never-early : ReadWhole (payloadIn short s)
     unfolding payloadPart
     never-early =
-        rw (payload-is, id-there, payload-length)
+        rw (payload-is s, id-there, payload-length)
         (reads-fields (getD s 2 0) .own (drop 2 s) 1 (getD s 1 0) (getD s 1 0) (le-refl _) (parts .fields))
 
 -- ---- as it is written

@@ -6,7 +6,7 @@ use Prim.Native.Nat.{ℕ, zero, suc, _+_, _≤_}
 use native.Mathlib.Omega.{arith}
 use lib.Dec.{T, ltb, ltb→lt}
 use lib.Ieee.Fits.{and-l, and-r}
-use lib.ListN.{length, getD, drop, replicate}
+use lib.ListN.{getD, drop, replicate}
 use Rattle.refusals.specs.Refusals.{ok}
 use Rattle.checksum.specs.Xmodem.{bringDown, remainder, bitsOfByte, bitsOf, checksumOf}
 use Rattle.packer.specs.Numbers.{beAt, bigEndian, total}
@@ -15,10 +15,11 @@ use Rattle.packer.specs.Unpacking.{readAt, consumeAt}
 use Rattle.names.specs.Names.{nulWithin}
 use Rattle.tables.specs.Tables.{hasBit, takes, widths, most}
 use Rattle.frame.specs.Frame.{short, frameOf}
+use Rattle.frame.specs.Opening.{byteAt, payloadPart, judgeSumOf, finishOf}
 use Rattle.layout.specs.Layout.{extentOf, extent, longestOf, longest}
 use Rattle.layout.specs.Replies.{fwVersion, getValues, selective, setupSelective, getStats, resetStats, fwInfo, layoutIn, fieldsEnd}
 use Rattle.layout.proofs.Readers.{Lawful, reads}
-use Rattle.judge.specs.Judge.{byteAt, payloadPart, judgeSumOf, finishOf, judgeOf}
+use Rattle.judge.specs.Judge.{judgeOf}
 use Rattle.judge.specs.Longest.{Longest, LongestFrames}
 use Rattle.judge.proofs.Full.{judge-full, judge-full-others}
 use Rattle.judge.proofs.Parts.{judge-frame}

@@ -1,40 +1,28 @@
 -- A good frame is judged by its own bytes alone.
-use mathlib.Core.Path.{_≡_, sym, ap, _∙_}
+use mathlib.Core.Path.{_≡_, sym, _∙_}
 use mathlib.Core.List.{List}
-use Prim.Native.Nat.{ℕ, _+_, _-_, _≤_, _<_}
+use Prim.Native.Nat.{ℕ, _+_, _-_, _<_}
 use native.Mathlib.Omega.{arith}
 use lib.ListN.{getD, take, drop}
-use lib.Seq.{getD-take, take-take}
+use lib.Seq.{getD-take}
 use Rattle.refusals.specs.Refusals.{ok}
-use Rattle.checksum.specs.Xmodem.{checksumOf}
-use Rattle.judge.specs.Judge.{payloadPart, judgeOf}
-use Rattle.packer.proofs.Kept.{own-there}
-use Rattle.packer.proofs.Numbers.{number-own}
 use Rattle.names.proofs.Prefix.{drop-take}
+use Rattle.frame.proofs.Endings.{ended-own}
 use Rattle.layout.proofs.Replies.{reads-fields}
+use Rattle.judge.specs.Judge.{judgeOf}
 use Rattle.judge.proofs.Parts.{FrameParts, judge-good, good-judged}
 use Rattle.judge.proofs.Sized.{judge-sized}
-
--- the payload lies in the frame's own bytes
-pub payload-own : (n end : ℕ) (s : List ℕ) → n + 2 ≤ end → payloadPart n (take end s) ≡ payloadPart n s
-unfolding payloadPart
-payload-own n end s before =
-    let inside : n ≤ end - 2 = omega arith in
-    rw (drop-take 2 end s, take-take n (end - 2) (drop 2 s) inside)
 
 module _ (s : List ℕ) (n : ℕ) (good : FrameParts s n) where
   good-own : FrameParts (take (n + 5) s) n
   good-own =
-      let there = good .there in
       let same : (k : ℕ) → k < n + 5 → getD (take (n + 5) s) k 0 ≡ getD s k 0 = λ k below. getD-take (n + 5) s k 0 below in
       record {
-        there = own-there (n + 5) (n + 5) s (omega arith) there;
         start = same 0 (omega arith) ∙ good .start;
         declared = good .declared ∙ sym (same 1 (omega arith));
         fields = rw (same 2 (omega arith), drop-take 2 (n + 5) s)
             (reads-fields (getD s 2 0) .own (drop 2 s) 1 n (n + 5 - 2) (omega arith) (good .fields));
-        sum = number-own 2 s (n + 2) (n + 5) (omega arith) ∙ good .sum ∙ ap checksumOf (sym (payload-own n (n + 5) s (omega arith)));
-        end = same (n + 4) (omega arith) ∙ good .end;
+        ended = ended-own s n (good .ended);
       }
 
 -- whatever follows a good frame, the frame alone is judged the same

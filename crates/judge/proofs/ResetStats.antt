@@ -5,9 +5,10 @@ use Rattle.refusals.specs.Refusals.{ok, refused, incompleteData}
 use Rattle.checksum.specs.Xmodem.{bringDown, remainder, bitsOfByte, bitsOf, checksumOf}
 use Rattle.packer.specs.Numbers.{beAt}
 use Rattle.packer.specs.Unpacking.{readAt}
+use Rattle.frame.specs.Opening.{byteAt, payloadPart, judgeSumOf, finishOf}
 use Rattle.layout.specs.Layout.{extent}
 use Rattle.layout.specs.Replies.{layoutIn, fieldsEnd}
-use Rattle.judge.specs.Judge.{byteAt, payloadPart, judgeSumOf, finishOf, judgeOf}
+use Rattle.judge.specs.Judge.{judgeOf}
 
 pub front-waits : judgeOf (2 ∷ 1 ∷ 129 ∷ []) ≡ refused incompleteData
 unfolding judgeOf byteAt fieldsEnd layoutIn extent finishOf readAt beAt

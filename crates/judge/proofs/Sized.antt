@@ -14,5 +14,5 @@ pub judge-sized : (xs : List ℕ) (c : ℕ) → judgeOf xs ≡ ok c → (6 ≤ c
 judge-sized xs c e =
     let frame = judge-frame xs c e in
     let onward = reads-fields (getD xs 2 0) .onward (drop 2 xs) 1 (getD xs 1 0) (frame .1 .fields) in
-    let there = frame .1 .there in
+    let there = frame .1 .ended .there in
     (omega arith, omega arith, frame .0)

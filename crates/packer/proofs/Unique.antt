@@ -23,7 +23,7 @@ placed : {A R : Type 0} (says : R → Answer (A × ℕ)) (got : A → ℕ → R)
     → ((a : R) → readBack (λ v. got (v .0) (v .1)) err (says a) ≡ a) → ToldApart says
 placed says got err = told-apart says (readBack (λ v. got (v .0) (v .1)) err)
 
-packed-unique : ToldApart packed
+pub packed-unique : ToldApart packed
 unfolding writeBack
 packed-unique =
     told-apart packed (writeBack p.Next p.Refused) (elim [ p.Next next ↦ refl | p.Refused e ↦ ap p.Refused (encode-back e) ])

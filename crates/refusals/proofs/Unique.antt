@@ -3,7 +3,7 @@ use mathlib.Core.Path.{_≡_, refl, sym, ap, _∙_}
 use mathlib.Core.Bool.{cond}
 use lib.Dec.{eqb}
 use lib.ListN.{getD}
-use Rattle.refusals.specs.Refusals.{Refusal, Answer, ok, refused, decodeRefusal, encodeRefusal, feedRefusal, consumed}
+use Rattle.refusals.specs.Refusals.{Refusal, Answer, ok, refused, decodeRefusal, encodeRefusal, writeBackRefusal, feedRefusal, consumed}
 use Rattle.refusals.specs.OneAnswer.{ToldApart, OneAnswer}
 use Rattle.refusals.specs.declared.DecodeError.{DecodeError}
 use Rattle.refusals.specs.declared.DecodeError.the-variants.{IncompleteData, InvalidFrame, UnknownPacket, ChecksumMismatch}
@@ -11,6 +11,8 @@ use Rattle.refusals.specs.declared.Consumed.{Consumed}
 use Rattle.refusals.specs.declared.Consumed.the-variants as c
 use Rattle.refusals.specs.declared.EncodeError.{EncodeError}
 use Rattle.refusals.specs.declared.EncodeError.the-variants.{BufferTooSmall, PayloadTooLong}
+use Rattle.refusals.specs.declared.WriteBackError.{WriteBackError}
+use Rattle.refusals.specs.declared.WriteBackError.the-variants as w
 use Rattle.refusals.specs.declared.FeedError.{FeedError}
 use Rattle.refusals.specs.declared.FeedError.the-variants.{NotDrained}
 
@@ -39,6 +41,15 @@ pub encode-back : (e : EncodeError) → encodeBack (encodeRefusal e) ≡ e
 unfolding encodeBack
 encode-back BufferTooSmall = refl
 encode-back PayloadTooLong = refl
+
+pub writeBackBack : Refusal → WriteBackError
+writeBackBack r = cond (eqb (r .number) 2) w.InvalidFrame (cond (eqb (r .number) 6) w.PayloadTooLong w.BufferTooSmall)
+
+pub write-back-back : (e : WriteBackError) → writeBackBack (writeBackRefusal e) ≡ e
+unfolding writeBackBack
+write-back-back w.InvalidFrame = refl
+write-back-back w.PayloadTooLong = refl
+write-back-back w.BufferTooSmall = refl
 
 -- there is only one
 pub feedBack : Refusal → FeedError
@@ -70,6 +81,7 @@ one-answer =
     record {
       decode-errors = told-apart decodeRefusal decodeBack decode-back;
       encode-errors = told-apart encodeRefusal encodeBack encode-back;
+      write-back-errors = told-apart writeBackRefusal writeBackBack write-back-back;
       feed-errors = told-apart feedRefusal feedBack feed-back;
       consumes = consumed-unique;
     }

@@ -1,7 +1,7 @@
 -- A promise leaves one answer. Document 01, "How tight the promises are": "For each, uniqueness of the answer is
 -- proved". Each crate states it of its own calls, in a record of this name.
 use mathlib.Core.Path.{_≡_}
-use Rattle.refusals.specs.Refusals.{decodeRefusal, encodeRefusal, feedRefusal, consumed}
+use Rattle.refusals.specs.Refusals.{decodeRefusal, encodeRefusal, writeBackRefusal, feedRefusal, consumed}
 
 -- the map tells its arguments apart: a promise that fixes the map's value fixes the answer
 abbrev pub ToldApart : {A B : Type 0} → (A → B) → Type 0
@@ -18,5 +18,6 @@ OnlyBoth {A} {B} Promise = (a b : A) (m n : B) → Promise a m → Promise b n �
 pub record OneAnswer : Type 0 where
   pub decode-errors : ToldApart decodeRefusal
   pub encode-errors : ToldApart encodeRefusal
+  pub write-back-errors : ToldApart writeBackRefusal
   pub feed-errors : ToldApart feedRefusal
   pub consumes : ToldApart consumed

@@ -8,6 +8,8 @@ use Rattle.refusals.specs.declared.Consumed.{Consumed}
 use Rattle.refusals.specs.declared.Consumed.the-variants as c
 use Rattle.refusals.specs.declared.EncodeError.{EncodeError}
 use Rattle.refusals.specs.declared.EncodeError.the-variants.{BufferTooSmall, PayloadTooLong}
+use Rattle.refusals.specs.declared.WriteBackError.{WriteBackError}
+use Rattle.refusals.specs.declared.WriteBackError.the-variants as w
 use Rattle.refusals.specs.declared.FeedError.{FeedError}
 use Rattle.refusals.specs.declared.FeedError.the-variants.{NotDrained}
 
@@ -65,6 +67,12 @@ consumed (c.Refused e) = refused (decodeRefusal e)
 abbrev pub encodeRefusal : EncodeError → Refusal
 encodeRefusal BufferTooSmall = bufferTooSmall
 encodeRefusal PayloadTooLong = payloadTooLong
+
+-- the refusals of writing a command back
+abbrev pub writeBackRefusal : WriteBackError → Refusal
+writeBackRefusal w.InvalidFrame = invalidFrame
+writeBackRefusal w.PayloadTooLong = payloadTooLong
+writeBackRefusal w.BufferTooSmall = bufferTooSmall
 
 -- the refusals of the gateway feed
 abbrev pub feedRefusal : FeedError → Refusal

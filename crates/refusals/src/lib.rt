@@ -1,7 +1,7 @@
 // Why an answer is no. Ports `DecodeError` and `EncodeError` of src/command.rs; document 01, "Six
 // refusals", gives each its number and says what is returned with it. Document 02 adds the rest.
 ghost use mathlib.Core.Path.{_≡_};
-ghost use Rattle.refusals.specs.Refusals.{decodeRefusal, encodeRefusal, feedRefusal};
+ghost use Rattle.refusals.specs.Refusals.{decodeRefusal, encodeRefusal, writeBackRefusal, feedRefusal};
 
 // Why a slice is not read.
 pub enum DecodeError {
@@ -21,6 +21,13 @@ pub enum Consumed {
 pub enum EncodeError {
     BufferTooSmall,
     PayloadTooLong,
+}
+
+// Why a command that was read is not written back.
+pub enum WriteBackError {
+    InvalidFrame,
+    PayloadTooLong,
+    BufferTooSmall,
 }
 
 // Why the gateway feed takes nothing.
@@ -53,6 +60,19 @@ impl EncodeError {
         match self {
             EncodeError::BufferTooSmall => 5,
             EncodeError::PayloadTooLong => 6,
+        }
+    }
+}
+
+impl WriteBackError {
+    // Document 01's number.
+    pub fn number(self) -> u8
+        ensures { λ r. ⌜ r ≡ writeBackRefusal self .number ⌝ }
+    {
+        match self {
+            WriteBackError::InvalidFrame => 2,
+            WriteBackError::PayloadTooLong => 6,
+            WriteBackError::BufferTooSmall => 5,
         }
     }
 }

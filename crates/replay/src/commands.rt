@@ -9,14 +9,17 @@ use packer::UnpackedI32;
 use packer::UnpackedU16;
 use packer::UnpackedU32;
 
-// What a command's number may be: the same four bytes in each of its forms.
-struct Number {
-    float: f32,
-    signed: i32,
-    bits: u32,
+// What a command's number may be: the same four bytes in each of its forms. The flags are the lowest bits.
+pub struct Number {
+    pub float: f32,
+    pub signed: i32,
+    pub bits: u32,
+    pub half: u16,
+    pub first: bool,
+    pub second: bool,
 }
 
-fn number_of(case: &[u8]) -> Number {
+pub(crate) fn number_of(case: &[u8]) -> Number {
     let bits = match packer::unpack_u32(case, 1) {
         UnpackedU32::Got(bits, _) => bits,
         UnpackedU32::Refused(_) => 0,
@@ -30,10 +33,13 @@ fn number_of(case: &[u8]) -> Number {
         float,
         signed,
         bits,
+        half: (bits % 65536) as u16,
+        first: bits % 2 == 1,
+        second: bits / 2 % 2 == 1,
     }
 }
 
-fn length_at(case: &[u8], pos: usize) -> usize
+pub(crate) fn length_at(case: &[u8], pos: usize) -> usize
     ensures { λ r. ⌜ r < 65536 ⌝ }
 {
     match packer::unpack_u16(case, pos) {
@@ -43,9 +49,6 @@ fn length_at(case: &[u8], pos: usize) -> usize
 }
 
 fn plain(place: u8, n: Number) -> Command {
-    let half = (n.bits % 65536) as u16;
-    let first = n.bits % 2 == 1;
-    let second = n.bits / 2 % 2 == 1;
     match place {
         0 => Command::FwVersion,
         1 => Command::GetValues,
@@ -61,11 +64,11 @@ fn plain(place: u8, n: Number) -> Command {
         11 => Command::GetValuesSetupSelective(n.bits),
         12 => Command::SetCurrentRel(n.float),
         13 => Command::SetOdometer(n.bits),
-        14 => Command::GetStats(half),
-        15 => Command::ResetStats(first),
-        16 => Command::Shutdown(first, second),
+        14 => Command::GetStats(n.half),
+        15 => Command::ResetStats(n.first),
+        16 => Command::Shutdown(n.first, n.second),
         17 => Command::FwInfo,
-        _ => Command::MotorEstop(half),
+        _ => Command::MotorEstop(n.half),
     }
 }
 
@@ -90,7 +93,7 @@ pub(crate) fn case(text: &mut [u8], line: Line, case: &[u8]) -> Line {
     let sent = plain(case[0], number_of(case));
     let mut space = shows::untouched();
     if 1024 < room {
-        return shows::say(text, line, b" too much room");
+        return shows::too_much_room(text, line);
     }
     let buf = &mut space[..room];
     let answer = encode::encode(sent, &case[7..], buf);

@@ -4,6 +4,7 @@
 // not known, too long or cut short is answered by a line that says so.
 mod commands;
 mod masks;
+mod readers;
 mod reads;
 mod replies;
 mod shows;
@@ -27,6 +28,8 @@ fn answer(text: &mut [u8], line: Line, letter: u8, case: &[u8], stream: &[u8]) -
         b'C' => streams::case(text, line, case, stream),
         b'c' => commands::case(text, line, case),
         b'r' => replies::case(text, line, case),
+        b'R' => readers::read(text, line, case),
+        b'P' => readers::write(text, line, case),
         b'M' => masks::case(text, line),
         b'H' => masks::asked(text, line, case),
         b'X' => unpackers::case(text, line, case),

@@ -10,16 +10,6 @@ use packer::UnpackedU32;
 use refusals::Consumed;
 use refusals::DecodeError;
 
-// The bits of a signed number, by way of the bytes that it is written as.
-pub(crate) fn bits_of(value: i32) -> u32 {
-    let mut four = [0u8; 4];
-    packer::pack_i32(&mut four, 0, value);
-    match packer::unpack_u32(&four, 0) {
-        UnpackedU32::Got(bits, _) => bits,
-        UnpackedU32::Refused(_) => 0,
-    }
-}
-
 // The position after a number that was read, and its bits.
 pub(crate) fn number(text: &mut [u8], line: Line, bits: u32, next: usize) -> Line {
     let now = shows::given(text, line, next);
@@ -53,14 +43,14 @@ pub(crate) fn read_u32(text: &mut [u8], line: Line, read: UnpackedU32) -> Line {
 
 fn read_i16(text: &mut [u8], line: Line, read: UnpackedI16) -> Line {
     match read {
-        UnpackedI16::Got(value, next) => number(text, line, bits_of(value as i32), next),
+        UnpackedI16::Got(value, next) => number(text, line, packer::as_u32(value as i32), next),
         UnpackedI16::Refused(e) => refused(text, line, e),
     }
 }
 
 fn read_i32(text: &mut [u8], line: Line, read: UnpackedI32) -> Line {
     match read {
-        UnpackedI32::Got(value, next) => number(text, line, bits_of(value), next),
+        UnpackedI32::Got(value, next) => number(text, line, packer::as_u32(value), next),
         UnpackedI32::Refused(e) => refused(text, line, e),
     }
 }

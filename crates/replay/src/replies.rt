@@ -1,6 +1,5 @@
 // The cases of `decode`: a slice. A reply is its kind and every field of all five records as a word of 32
 // bits, in the order of the structs.
-use crate::reads;
 use crate::shows;
 use crate::shows::Line;
 use firmware::FwInfo;
@@ -17,7 +16,7 @@ fn bits(value: f32) -> u32 {
     floats::f32_to_bits(value)
 }
 
-fn flag(value: bool) -> u32 {
+pub(crate) fn flag(value: bool) -> u32 {
     if value { 1 } else { 0 }
 }
 
@@ -42,8 +41,8 @@ fn of_values(v: Values) -> [u32; 25] {
         bits(v.amp_hours_charged),
         bits(v.watt_hours),
         bits(v.watt_hours_charged),
-        reads::bits_of(v.tachometer),
-        reads::bits_of(v.tachometer_abs),
+        packer::as_u32(v.tachometer),
+        packer::as_u32(v.tachometer_abs),
         byte(codes::fault_number(fault)),
         bits(v.pid_pos),
         byte(v.controller_id),
@@ -187,7 +186,7 @@ fn returned(text: &mut [u8], line: Line, e: DecodeError) -> Line {
     }
 }
 
-fn count(text: &mut [u8], line: Line, answer: Consumed) -> Line {
+pub(crate) fn count(text: &mut [u8], line: Line, answer: Consumed) -> Line {
     match answer {
         Consumed::To(count) => shows::given(text, line, count),
         Consumed::Refused(e) => returned(text, line, e),

@@ -120,6 +120,11 @@ pub(crate) fn cut_short(text: &mut [u8], line: Line) -> Line {
     say(text, line, b" cut short")
 }
 
+// A case that asks for more room than `untouched` has.
+pub(crate) fn too_much_room(text: &mut [u8], line: Line) -> Line {
+    say(text, line, b" too much room")
+}
+
 // A buffer that holds A5 everywhere, so that what is not written shows.
 pub(crate) fn untouched() -> [u8; 1024]
     ensures { λ r. ⌜ length r ≡ 1024 ⌝ }

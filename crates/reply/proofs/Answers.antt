@@ -6,7 +6,8 @@ use native.Mathlib.Omega.{arith}
 use lib.ListN.{length, take, drop, length-drop}
 use lib.Seq.{take-nil, take-all}
 use Rattle.refusals.specs.Refusals.{Refusal, Answer, ok, refused}
-use Rattle.judge.specs.Judge.{payloadPart, judgeOf}
+use Rattle.frame.specs.Opening.{payloadPart}
+use Rattle.judge.specs.Judge.{judgeOf}
 use Rattle.reply.specs.Reply.{emptyReply}
 use Rattle.reply.specs.Decode.{replyIn, replyBy, decodeOf}
 use Rattle.reply.specs.declared.CommandReply.{CommandReply}

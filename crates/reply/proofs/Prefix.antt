@@ -6,13 +6,12 @@ use native.Mathlib.Omega.{arith}
 use lib.ListN.{length, getD, take, List·getD-append}
 use lib.Seq.{getD-take}
 use Rattle.refusals.specs.Refusals.{Answer, ok, refused, incompleteData}
+use Rattle.frame.proofs.Places.{payload-kept, payload-own, payload-is}
 use Rattle.judge.specs.Judge.{judgeOf}
-use Rattle.judge.proofs.Places.{payload-kept}
-use Rattle.judge.proofs.Good.{payload-is}
 use Rattle.judge.proofs.Prefix.{judge-prefix}
 use Rattle.judge.proofs.Full.{judge-full}
 use Rattle.judge.proofs.Sized.{judge-sized}
-use Rattle.judge.proofs.OwnBytes.{judge-own-bytes, payload-own}
+use Rattle.judge.proofs.OwnBytes.{judge-own-bytes}
 use Rattle.reply.specs.Reply.{replyOf}
 use Rattle.reply.specs.Decode.{replyIn, replyBy, decodeOf}
 

@@ -23,12 +23,14 @@ use Rattle.telemetry.proofs.Records.{telemetry-records}
 use Rattle.firmware.specs.declared.FwVersion.{FwVersion}
 use Rattle.firmware.specs.declared.FwInfo.{FwInfo}
 use Rattle.frame.specs.Frame.{short, payloadIn}
+use Rattle.frame.specs.Opening.{payloadPart}
+use Rattle.frame.proofs.Places.{payload-is}
 use Rattle.layout.specs.Layout.{Layout, extent, rawOf, RawsOf, raws}
 use Rattle.layout.specs.Replies.{getValues, selective, setupSelective, getStats, layoutIn, fieldsEnd}
 use Rattle.layout.proofs.Raws.{raws-drop, raws-own}
-use Rattle.judge.specs.Judge.{payloadPart, judgeOf}
+use Rattle.judge.specs.Judge.{judgeOf}
 use Rattle.judge.specs.Good.{GoodFrame}
-use Rattle.judge.proofs.Good.{payload-is, good-parts, id-there, good-frames}
+use Rattle.judge.proofs.Good.{good-parts, id-there, good-frames}
 use Rattle.reply.specs.Reply.{kindNumber, replyWith, blankOf, emptyReply, withValues, withSetupValues, withStats, getValuesOf, getValuesSelectiveOf, getValuesSetupSelectiveOf, getStatsOf, fwVersionReplyOf, fwInfoReplyOf, replyOf}
 use Rattle.reply.specs.Decode.{Decode, replyIn, replyBy, decodeOf, decoded}
 use Rattle.reply.specs.Records.{recordIn, received, masks, fieldsAt, RecordsOf}
@@ -78,7 +80,7 @@ module _ (s : List ℕ) (good : GoodFrame s) where
   unfolding payloadPart
   raws-there l chosen =
       let parts = good-parts s good in
-      let there = parts .there in
+      let there = parts .ended .there in
       ap (λ (part : List ℕ). raws l part 1) (payload-is s)
       ∙ raws-own (drop 2 s) (getD s 1 0) l 1 (getD s 1 0) (le-refl _) (sym chosen ∙ parts .fields)
       ∙ raws-drop s 2 (omega arith) l 1

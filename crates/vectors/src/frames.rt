@@ -5,6 +5,7 @@ use crate::says;
 use command::Command;
 use encode::Encoded;
 use refusals::Consumed;
+use refusals::DecodeError;
 
 fn line(word: &[u8], n: usize) {
     says::text(word);
@@ -20,10 +21,31 @@ fn encoded(answer: Encoded) {
     }
 }
 
-fn judged(answer: Consumed) {
+// Document 01's number of the refusal, and the values returned with it.
+fn refused(e: DecodeError) {
+    says::text(b"refused ");
+    says::decimal(e.number() as u64);
+    match e {
+        DecodeError::IncompleteData => {}
+        DecodeError::InvalidFrame => {}
+        DecodeError::UnknownPacket { id } => {
+            says::text(b", id ");
+            says::decimal(id as u64);
+        }
+        DecodeError::ChecksumMismatch { expected, actual } => {
+            says::text(b", expected ");
+            says::hex(expected as u64, 4);
+            says::text(b", actual ");
+            says::hex(actual as u64, 4);
+        }
+    }
+    says::text(b"\n");
+}
+
+pub(crate) fn judged(answer: Consumed) {
     match answer {
         Consumed::To(n) => line(b"good ", n),
-        Consumed::Refused(e) => line(b"refused ", e.number() as usize),
+        Consumed::Refused(e) => refused(e),
     }
 }
 
@@ -32,7 +54,7 @@ fn byte(b: u8) {
     says::text(b" ");
 }
 
-fn bytes(all: &[u8]) {
+pub(crate) fn bytes(all: &[u8]) {
     let mut at = 0;
     while at < all.len() {
         byte(all[at]);

@@ -1,7 +1,8 @@
 // Runs the vectors that document 01 wants run, and prints what comes: the catalogue's check value of
 // CRC-16/XMODEM, the two readings past 2^24, the frames that it does not mark P and its worked stream.
-// An encode behind a million hops is added, states that are handed to the gateway feed (document 02, W12), and the masks
-// of telemetry records (W1).
+// An encode behind a million hops is added, states that are handed to the gateway feed (document 02, W12), the masks of
+// telemetry records (W1), and command frames that are read (W2).
+mod commands;
 mod frames;
 mod handed;
 mod masks;
@@ -35,4 +36,5 @@ fn main() {
     worked::stream();
     handed::states();
     masks::records();
+    commands::payloads();
 }

@@ -4,10 +4,7 @@ use mathlib.Core.List.{List, _++_}
 use Prim.Native.Nat.{ℕ, _+_, _-_, _≤_, _<_}
 use native.Mathlib.Omega.{arith}
 use lib.ListN.{length, getD, take, drop}
-use mathlib.Core.Bool.{Bool, true, false, not}
-use lib.Dec.{T, ltb, eqb, ltb→lt, nltb→le}
 use mathlib.Core.Logic.{_↔_, inl, inr}
-use borrow.Author.Tests.{eqb-true, eqb-false}
 use Rattle.refusals.specs.Refusals.{Refusal, Answer, ok, refused, incompleteData, invalidFrame, unknownPacket, checksumMismatch, bufferTooSmall, payloadTooLong, decodeRefusal, consumed}
 use Rattle.refusals.proofs.Different.{none}
 use Rattle.checksum.specs.Xmodem.{checksumOf}
@@ -19,22 +16,27 @@ use Rattle.text.proofs.Rule.{well-formed-iff}
 use Rattle.text.proofs.Ends.{text-of-name}
 use Rattle.packer.specs.Numbers.{beAt}
 use Rattle.packer.specs.Unpacking.{unsignedAt}
-use Rattle.packer.proofs.Places.{got, lacking, lent-whole}
-use Rattle.encode.specs.Encode.{EncodeIs, encoded, encodeAnswer}
+use Rattle.packer.proofs.Places.{got, lent-whole}
+use Rattle.encode.specs.Encode.{EncodeIs, encoded}
 use Rattle.encode.proofs.Exact.{refused-writes-nothing}
-use Rattle.encode.proofs.Tests.{answer-too-long, answer-too-small, answer-fits}
 use Rattle.command.specs.declared.Command.{Command}
 use Rattle.encode.specs.declared.Encoded.{Encoded}
-use Rattle.judge.specs.Judge.{judgeOf, finishOf, judgeSumOf, payloadPart}
+use Rattle.judge.specs.Judge.{judgeOf}
 use Rattle.judge.proofs.Order as order
 use Rattle.format.specs.Format.{payloadAt, frameStart}
 use Rattle.frame.specs.Frame.{short, frameSize, startByte, declared, carried, endByte}
+use Rattle.frame.specs.Opening.{finishOf, judgeSumOf, payloadPart}
+use Rattle.frame.specs.Wrapping.{wrapAnswer}
+use Rattle.frame.proofs.Cases.{by-order, by-equality}
+use Rattle.frame.proofs.Places.{declared-is, carried-is, payload-is, end-is}
+use Rattle.frame.proofs.Endings as ending
+use Rattle.frame.proofs.Wrapped.{answer-too-long, answer-too-small, answer-fits}
 use Rattle.layout.specs.Layout.{Layout, extent}
 use Rattle.layout.specs.Replies.{replies, layoutIn, NoneOf, fieldsEnd}
 use Rattle.layout.proofs.Replies.{no-reply, by-reply}
 use Rattle.layout.proofs.Refusals.{OneOrTwo, plain}
 use Rattle.judge.specs.Good.{idByte}
-use Rattle.judge.proofs.Good.{declared-is, carried-is, payload-is, end-is, good-frames}
+use Rattle.judge.proofs.Good.{good-frames}
 use Rattle.reply.specs.Decode.{Decode, replyBy, decodeOf, decoded}
 use Rattle.reply.specs.declared.Decoded.{Decoded}
 use Rattle.reply.specs.Reply.{emptyReply}
@@ -57,21 +59,6 @@ use Rattle.decoder.proofs.NoSooner.{not-in-106, gateway-not-in-106}
 use Rattle.vesc.specs.Demands.{EncodeRefuses, DecodeRefuses, Fields, fieldsRead, Way, DemandOne, DemandTwo, AsRead, DemandThree, DemandThreeGateway, LineFigures, summed}
 use Rattle.vesc.specs.Demands.{no-start, start-wrong, no-length, no-id, unknown-id, no-field, no-nul, length-wrong, no-end, end-wrong, sum-wrong, good, answerOf}
 
--- ---- a fact or its other side
-by-order : {C : Type 0} (a b : ℕ) → (a < b → C) → (b ≤ a → C) → C
-by-order {C} a b less more = go (ltb a b) (ltb→lt a b) (nltb→le a b)
-  where
-    go : (t : Bool) → (T t → a < b) → (T (not t) → b ≤ a) → C
-    go true l m = less (l tt)
-    go false l m = more (m tt)
-
-by-equality : {C : Type 0} (a b : ℕ) → (a ≡ b → C) → ((a ≡ b → ⊥) → C) → C
-by-equality {C} a b same differs = go (eqb a b) refl
-  where
-    go : (t : Bool) → eqb a b ≡ t → C
-    go true e = same (eqb-true a b e)
-    go false e = differs (eqb-false a b e)
-
 -- ---- two answers are not one
 abbrev numberOf : Answer ℕ → ℕ
 numberOf (ok value) = 0
@@ -84,7 +71,7 @@ one-answer : {C : Type 0} {why : Refusal} {n : ℕ} → _≡_ {A = Answer ℕ} (
 one-answer e = none (cc)
 
 -- ---- what `encode` answers, by the length n of the payload and the room
-module _ (n room : ℕ) (a : Answer ℕ) (is : a ≡ encodeAnswer n room) where
+module _ (n room : ℕ) (a : Answer ℕ) (is : a ≡ wrapAnswer n room) where
   answer-long : (a ≡ refused payloadTooLong) ↔ (255 < n)
   answer-long = (λ e. by-order 255 n (λ h. h) (λ h. by-order room (n + 5) (λ k. six-five (sym e ∙ is ∙ answer-too-small n room h k)) (λ k. one-answer (sym e ∙ is ∙ answer-fits n room h k))), λ h. is ∙ answer-too-long n room h)
 
@@ -124,25 +111,20 @@ module _ (s : List ℕ) where
   sum-there : n + 4 ≤ length s → ok (beAt s (n + 2) 2, n + 2 + 2) ≡ unsignedAt 2 s (n + 2)
   sum-there h = sym (got 2 (beAt s (n + 2) 2) s (n + 2) (omega arith))
 
-  -- a byte of the sum is missing, or the end byte
   end-missing : Fields s → length s < n + 5 → judgeOf s ≡ refused incompleteData
-  end-missing f h =
-      sym (finished f)
-      ∙ by-order (length s) (n + 4)
-      (λ k. sym (order.no-sum s n incompleteData (sym (lacking 2 (beAt s (n + 2) 2) s (n + 2) (omega arith)))))
-      (λ k. sym (order.no-end s n _ (sum-there k) (omega arith)))
+  end-missing f h = sym (finished f) ∙ ending.finish-waits s n h
 
   module _ (f : Fields s) (there : n + 5 ≤ length s) where
     end-is-wrong : (getD s (n + 4) 0 ≡ 3 → ⊥) → judgeOf s ≡ refused invalidFrame
-    end-is-wrong differs = sym (finished f) ∙ sym (order.end-wrong s n _ (sum-there (omega arith)) (omega arith) differs)
+    end-is-wrong differs = sym (finished f) ∙ sym (ending.end-wrong s n _ (sum-there (omega arith)) (omega arith) differs)
 
     sum-is-wrong : getD s (n + 4) 0 ≡ 3 → (carried short s ≡ summed s → ⊥) → judgeOf s ≡ refused (checksumMismatch (carried short s) (summed s))
     unfolding payloadPart
     sum-is-wrong end differs =
         let all : n + 2 - 2 ≡ n = omega arith in
-        let ended : judgeSumOf s n (beAt s (n + 2) 2) ≡ judgeOf s = order.end-right s n _ (sum-there (omega arith)) (omega arith) end ∙ finished f in
+        let ended : judgeSumOf s n (beAt s (n + 2) 2) ≡ judgeOf s = ending.end-right s n _ (sum-there (omega arith)) (omega arith) end ∙ finished f in
         let sum : summed s ≡ checksumOf (take (n + 2 - 2) (drop 2 s)) = rw all (ap checksumOf (payload-is s)) in
-        sym (ap (judgeSumOf s n) (carried-is s) ∙ ended) ∙ sym (order.sum-wrong s n (carried short s) (summed s) sum differs)
+        sym (ap (judgeSumOf s n) (carried-is s) ∙ ended) ∙ sym (ending.sum-wrong s n (carried short s) (summed s) sum differs)
 
   empty-by : (why : Refusal) → judgeOf s ≡ refused why → replyBy (judgeOf s) s ≡ emptyReply
   unfolding replyBy

@@ -10,7 +10,7 @@ use Rattle.refusals.specs.Refusals.{Answer, ok, refused, incompleteData, invali
 use Rattle.floats.specs.Numbers.{overScale}
 use Rattle.command.specs.Commands.{bytesOf}
 use Rattle.encode.specs.Payload.{payloadOf}
-use Rattle.encode.specs.Encode.{encodeAnswer, encodeAfter}
+use Rattle.frame.specs.Wrapping.{wrapAnswer, wrapAfter}
 use Rattle.command.specs.declared.Command.{Command}
 use Rattle.command.specs.declared.Command.the-variants.{GetValues, Alive, SetRpm, SetCurrent}
 use Rattle.format.specs.Format.{payloadAt}
@@ -41,7 +41,7 @@ selectiveValues slice = valuesOf (selectiveRaws slice .0) (selectiveRaws slice .
 -- what a row claims
 abbrev pub Claimed : Row → Type 0
 Claimed (encodes command room answer after) =
-    (encodeAnswer (length (payloadOf command [])) room ≡ answer) × (encodeAfter (payloadOf command []) (replicate room 0) ≡ after)
+    (wrapAnswer (length (payloadOf command [])) room ≡ answer) × (wrapAfter (payloadOf command []) (replicate room 0) ≡ after)
 Claimed (carries command payload) = bytesOf command ≡ payload
 Claimed (decodes slice answer id) = (decodeOf slice .answer ≡ answer) × (kindNumber (decodeOf slice .reply .kind) ≡ id)
 Claimed (reads slice rpm voltage) =

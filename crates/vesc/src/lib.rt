@@ -1,6 +1,6 @@
-// The names that a caller uses. Ports src/lib.rs: encode commands, decode replies, decode a stream. A crate that uses the
-// types lists their crates too: copy the line of `example` in crates.txt. specs/Frames.antt has document 01's proved
-// frames as one table, specs/Demands.antt the three demands.
+// The names that a caller uses. Ports src/lib.rs: encode commands, decode replies, decode a stream; and document 02's
+// W2, commands read and written back. A crate that uses the types lists their crates too: copy the line of `example` in
+// crates.txt. specs/Frames.antt has document 01's proved frames as one table, specs/Demands.antt the three demands.
 pub use codes::FaultCode;
 pub use codes::HwType;
 pub use codes::QmlHw;
@@ -11,6 +11,12 @@ pub use command::Command;
 pub use command::StatsMask;
 pub use command::ValuesMask;
 pub use command::ValuesSetupMask;
+pub use command::raw_of;
+pub use command_reader::CommandRead;
+pub use command_reader::WrittenBack;
+pub use command_reader::hop_part;
+pub use command_reader::read_command;
+pub use command_reader::write_command;
 pub use decoder::Decoder;
 pub use decoder::Fed;
 pub use decoder::Figures;
@@ -23,10 +29,12 @@ pub use firmware::FwInfo;
 pub use firmware::FwVersion;
 pub use format::CommandId;
 pub use judge::judge;
+pub use raw_command::RawCommand;
 pub use refusals::Consumed;
 pub use refusals::DecodeError;
 pub use refusals::EncodeError;
 pub use refusals::FeedError;
+pub use refusals::WriteBackError;
 pub use reply::CommandReply;
 pub use reply::Decoded;
 pub use reply::Kind;

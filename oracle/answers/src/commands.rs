@@ -14,7 +14,7 @@ use vesc::{Command, StatsMask, ValuesMask, ValuesSetupMask};
 
 pub const COMMANDS: u8 = 19;
 
-fn command(place: u8, bits: u32) -> Command<'static> {
+pub fn command(place: u8, bits: u32) -> Command<'static> {
     let float = f32::from_bits(bits);
     match place {
         0 => Command::FwVersion,
@@ -39,7 +39,7 @@ fn command(place: u8, bits: u32) -> Command<'static> {
     }
 }
 
-fn plain_length(place: u8) -> usize {
+pub fn plain_length(place: u8) -> usize {
     match place {
         0 | 1 | 8 | 9 | 17 => 1,
         15 => 2,
@@ -49,7 +49,7 @@ fn plain_length(place: u8) -> usize {
 }
 
 /// The command behind its hops: the first hop is the outermost ForwardCan.
-fn with_hops<T>(hops: &[u8], command: Command, run: &mut dyn FnMut(Command) -> T) -> T {
+pub fn with_hops<T>(hops: &[u8], command: Command, run: &mut dyn FnMut(Command) -> T) -> T {
     match hops.split_last() {
         None => run(command),
         Some((last, rest)) => with_hops(rest, Command::ForwardCan(*last, &command), run),
@@ -146,15 +146,21 @@ pub fn encode(block: &mut Block, place: u8, bits: u32, room: usize, hops: &[u8])
     block.case(b'c', &case);
 }
 
+/// What a scaled number is multiplied by.
+pub fn scale(place: u8) -> Option<f32> {
+    match place {
+        2 | 12 => Some(100000.0),
+        6 => Some(1000000.0),
+        3 | 4 | 7 => Some(1000.0),
+        _ => None,
+    }
+}
+
 /// The bits that matter to a command's number.
-fn ends(place: u8) -> Vec<u32> {
+pub fn ends(place: u8) -> Vec<u32> {
     match place {
         2 | 3 | 4 | 6 | 7 | 12 => {
-            let scale = match place {
-                2 | 12 => 100000.0f32,
-                6 => 1000000.0,
-                _ => 1000.0,
-            };
+            let scale = scale(place).unwrap();
             let mut all: Vec<u32> = [0u32, 1, 0x007F_FFFF, 0x0080_0000, 0x3FC0_0000, 0x7F7F_FFFF, 0x7F80_0000, 0x7FC0_0000]
                 .iter()
                 .flat_map(|b| [*b, *b | 0x8000_0000])

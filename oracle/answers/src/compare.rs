@@ -2,7 +2,7 @@
 //! differs is shown with its bytes and both answers whole, field by field.
 
 use crate::lateness::{self, Tally};
-use crate::{Block, Random, answer_to, commands, numbers, replies, streams, unpackers};
+use crate::{Block, Random, answer_to, commands, numbers, reader, replies, streams, unpackers};
 use std::io::Write;
 use std::process::{Command, Stdio};
 
@@ -157,14 +157,15 @@ pub fn run(args: &[String]) {
     let seed: u64 = number(seed, "the seed");
     let mut random = Random(seed ^ 0x9E37_79B9_7F4A_7C15);
     println!("seed {seed}");
-    let sorts: [(&str, &str, usize, fn(&mut Block, &mut Random, usize)); 6] = [
+    let sorts: [(&str, &str, usize, fn(&mut Block, &mut Random, usize)); 7] = [
         ("reads, writes, names, masks", read, 50_000, reads),
         ("decode", decodes, 100_000, replies::some),
         ("encode", encodes, 50_000, commands::some),
         ("call sequences", sequences, 500, streams::some),
-        // the last two, so that the sorts before them draw what they drew without them
+        // the last three, so that the sorts before them draw what they drew without them
         ("gateway sequences", sequences, 500, streams::gateway_some),
         ("lateness sequences", sequences, 3_000, lateness::some),
+        ("command frames read", encodes, 50_000, reader::some),
     ];
     let mut all = 0;
     for (name, wanted, most, make) in sorts {

@@ -3,6 +3,7 @@
 //!     answers FOLDER BLOCK..     writes FOLDER/stdin (the cases) and FOLDER/stdout (the Rust's answers)
 //!
 //!     answers compare SEED DECODES ENCODES SEQUENCES READS PROGRAM..     fresh random cases, asked of the Rust and of our PROGRAM; so many
+//!                                                                         ENCODES twice, commands written and command frames read, and
 //!                                                                         SEQUENCES three times: without the gateway feed, with it, and
 //!                                                                         over late frames
 //!     answers lateness SEED STREAMS                                       how late frames are given, by the distance of a false start
@@ -28,6 +29,7 @@ mod gateway;
 mod lateness;
 mod line;
 mod numbers;
+mod reader;
 mod replies;
 mod streams;
 mod unpackers;
@@ -77,6 +79,8 @@ pub fn answer_to(letter: u8, case: &[u8], stream: &[u8], whole: bool) -> Answer 
         b'C' => streams::answer(&mut answer, case, stream),
         b'c' => commands::answer(&mut answer, case),
         b'r' => replies::answer(&mut answer, case),
+        b'R' => reader::read_back(&mut answer, case),
+        b'P' => reader::put_together(&mut answer, case),
         b'M' => commands::masks(&mut answer),
         b'H' => commands::asked(&mut answer, case),
         b'T' => numbers::text(&mut answer, case),
@@ -132,7 +136,7 @@ fn faults() -> Block {
     let mut block = Block::default();
     block.case(b'?', &[]);
     block.case(b'Z', &[1, 2, 3]);
-    for letter in *b"bsutihwFnmdBSUIWXYH" {
+    for letter in *b"bsutihwFnmdBSUIWXYHP" {
         block.case(letter, &[0x3F, 0x80, 0]);
     }
     for letter in *b"BSUIW" {
@@ -158,7 +162,7 @@ fn main() {
         _ => {}
     }
     let (Some(folder), true) = (args.get(1), args.len() > 2) else {
-        eprintln!("usage: answers FOLDER BLOCK..   the blocks: numbers unpackers commands replies streams gateway late faults");
+        eprintln!("usage: answers FOLDER BLOCK..   the blocks: numbers unpackers commands replies streams gateway late readers faults");
         std::process::exit(2);
     };
     let mut cases = vec![];
@@ -172,6 +176,7 @@ fn main() {
             "streams" => streams::block(),
             "gateway" => streams::gateway_block(),
             "late" => lateness::block(),
+            "readers" => reader::block(),
             "faults" => faults(),
             _ => {
                 eprintln!("answers: no block {block}");

@@ -174,6 +174,19 @@ pub fn whole(a: &mut Answer, reply: Option<&CommandReply>, frame: &[u8]) {
     }
 }
 
+/// A refusal's number and the values returned with it.
+pub fn refused(answer: &mut Answer, error: &DecodeError) {
+    answer.refused(number(error));
+    match error {
+        DecodeError::UnknownPacket { id } => answer.say("id", id),
+        DecodeError::ChecksumMismatch { expected, actual } => {
+            answer.say("expected", expected);
+            answer.say("actual", actual);
+        }
+        _ => {}
+    }
+}
+
 pub fn answer(answer: &mut Answer, slice: &[u8]) {
     let decoded = vesc::decode(slice);
     match &decoded {
@@ -181,17 +194,7 @@ pub fn answer(answer: &mut Answer, slice: &[u8]) {
             answer.good = true;
             answer.given(*count);
         }
-        Err(error) => {
-            answer.refused(number(error));
-            match error {
-                DecodeError::UnknownPacket { id } => answer.say("id", id),
-                DecodeError::ChecksumMismatch { expected, actual } => {
-                    answer.say("expected", expected);
-                    answer.say("actual", actual);
-                }
-                _ => {}
-            }
-        }
+        Err(error) => refused(answer, error),
     }
     whole(answer, decoded.ok().as_ref().map(|(_, reply)| reply), slice);
     answer.digest();

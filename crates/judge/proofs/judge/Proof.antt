@@ -22,9 +22,6 @@ returns-3 c = no-length _ (c .before .if2 .left) (c .before .before .before .if1
 shared-slice-read-payload-len : tie.Need-shared-slice-read-payload-len
 shared-slice-read-payload-len c = search needs
 
-cast-payload-len : tie.Need-cast-payload-len
-cast-payload-len c = omega (arith, c .shared-slice-known3 .given 1)
-
 returns-4 : tie.Need-returns-4
 returns-4 c = no-id _ (c .before .before .before .if2 .left) (c .before .before .if3 .left) (c .if4 .taken)
 
@@ -45,6 +42,9 @@ fields-end-requires c κs = search needs
 
 enum-known-read : tie.Need-enum-known-read
 enum-known-read c = search needs
+
+cast-if5 : tie.Need-cast-if5
+cast-if5 c = omega (arith, c .before .before .before .before .before .before .before .shared-slice-known3 .given 1)
 
 returns-5 : tie.Need-returns-5
 returns-5 c =
@@ -80,7 +80,6 @@ judge-spec =
     returns-2
     returns-3
     shared-slice-read-payload-len
-    cast-payload-len
     returns-4
     shared-slice-read-id
     sub-fields-end
@@ -88,6 +87,7 @@ judge-spec =
     part-fields-end-end
     fields-end-requires
     enum-known-read
+    cast-if5
     returns-5
     finish-requires
     enum-known-e

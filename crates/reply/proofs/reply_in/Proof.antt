@@ -1,7 +1,7 @@
 -- `reply::reply_in` meets its contract: by how much of the payload part is there.
 use mathlib.Core.Path.{sym, ap, _∙_}
 use native.Mathlib.Omega.{arith}
-use Rattle.judge.proofs.Good.{payload-is}
+use Rattle.frame.proofs.Places.{payload-is}
 use Rattle.reply.specs.Reply.{replyOf}
 use Rattle.reply.specs.Decode.{replyIn}
 use Rattle.reply.proofs.Answers.{part-none, part-short, part-whole}

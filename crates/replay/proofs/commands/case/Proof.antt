@@ -29,11 +29,8 @@ plain-requires c κs = search needs
 untouched-requires : tie.Need-untouched-requires
 untouched-requires c κs = search needs
 
-slice-aggregate-say : tie.Need-slice-aggregate-say
-slice-aggregate-say c = search needs
-
-say-requires : tie.Need-say-requires
-say-requires c κs = search needs
+too-much-room-requires : tie.Need-too-much-room-requires
+too-much-room-requires c κs = search needs
 
 same-length-2 : tie.Need-same-length-2
 same-length-2 c = search needs
@@ -80,8 +77,7 @@ case-spec =
     number-of-requires
     plain-requires
     untouched-requires
-    slice-aggregate-say
-    say-requires
+    too-much-room-requires
     same-length-2
     returns-2
     array-borrow-prefix-space

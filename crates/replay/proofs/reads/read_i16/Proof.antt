@@ -7,11 +7,11 @@ use Rattle.replay.proofs.reads.read_i16.Tie as tie
 enum-known-read : tie.Need-enum-known-read
 enum-known-read c = search needs
 
-cast-bits-of : tie.Need-cast-bits-of
-cast-bits-of c = widened-fits (c .before .before .read .given .0 .0) (record { sfits = c .before .known-told .given .0 .1 })
+cast-as-u32 : tie.Need-cast-as-u32
+cast-as-u32 c = widened-fits (c .before .before .read .given .0 .0) (record { sfits = c .before .known-told .given .0 .1 })
 
-bits-of-requires : tie.Need-bits-of-requires
-bits-of-requires c κs = search needs
+as-u32-requires : tie.Need-as-u32-requires
+as-u32-requires c κs = search needs
 
 number-requires : tie.Need-number-requires
 number-requires c κs = search needs
@@ -39,8 +39,8 @@ read-i16-spec =
     tie.close
     (tie.spec
     enum-known-read
-    cast-bits-of
-    bits-of-requires
+    cast-as-u32
+    as-u32-requires
     number-requires
     enum-known-read-2
     refused-requires

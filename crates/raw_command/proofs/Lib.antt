@@ -1,0 +1,9 @@
+pub mod Sizes
+pub mod Packing
+pub mod Ids
+pub mod Values
+pub mod Behind
+pub mod Arms
+pub mod Order
+pub mod Laws
+pub mod Unique
