@@ -4,7 +4,7 @@ use mathlib.Core.List.{List, [], ◌∷◌, ◌++◌, append_assoc, append-nil}
 use mathlib.Core.Bool.{Bool, true}
 use Prim.Native.Nat.{ℕ, ◌+◌}
 use lib.ListN.{take}
-use Rattle.stream.specs.Reading.{notYet, Judge, Steady, read_all, repliesOf, joined}
+use Rattle.stream.specs.Reading.{not_yet, Judge, Steady, read_all, replies_of, joined}
 use Rattle.stream.specs.Lateness.{ToldBefore, InTime}
 use Rattle.stream.proofs.Lateness as lateness
 use Rattle.stream.proofs.Turns.{by-reading, idle, at-good-frame, at-noise}
@@ -103,14 +103,14 @@ module _ {R : Type 0} (judge : Judge R) (steady : Steady judge) where
 
     -- At every point: the replies so far, and behind them those that the reading of what is unread gives.
     pub any-so-far : {Free : Type 0} {pieces ahead : List (List ℕ)} {taken : List ℕ} {replies : List R} {s : calls.State} → AnyOrder calls Free pieces ahead taken replies s
-        → replies ++ repliesOf (read_all judge (unread s)).frames ≡ repliesOf (read_all judge taken).frames
+        → replies ++ replies_of (read_all judge (unread s)).frames ≡ replies_of (read_all judge taken).frames
     any-so-far {replies = replies} {s} order =
         let c = comes (unread s) in
         ap (λ (l : List R). replies ++ l) (sym (c.2.same-replies 0)) ∙ (any-behind order c.0 c.1 c.2).same-replies 0
 
     -- A marked state: the judge can't tell more of what is unread.
     any-waits : {Free : Type 0} {pieces ahead : List (List ℕ)} {taken : List ℕ} {replies : List R} {s : calls.State}
-        → AnyOrder calls Free pieces ahead taken replies s → marked s ≡ true → judge (unread s) ≡ notYet
+        → AnyOrder calls Free pieces ahead taken replies s → marked s ≡ true → judge (unread s) ≡ not_yet
     any-waits (begins first) m = ap judge (keeping.fresh first) ∙ steady.empty
     any-waits (feeds order fed) m = let k = keeping.fed-mark fed m in ap judge k.1 ∙ any-waits order k.0
     any-waits (gives_one order gave) m = absurd (keeping.reply-mark gave m)
@@ -125,7 +125,7 @@ module _ {R : Type 0} (judge : Judge R) (steady : Steady judge) where
           any-behind order [] (unread s) (comes-by judge steady (unread s) _ (λ at. idle judge steady at (unread s) waits) (λ at. refl) (λ at. refl))
 
       -- So where the mark is set, the replies are those of the reading of what was taken, and what that leaves is unread.
-      pub any-replies : replies ≡ repliesOf (read_all judge taken).frames
+      pub any-replies : replies ≡ replies_of (read_all judge taken).frames
       any-replies = sym (append-nil replies) ∙ all-comes.same-replies 0
 
       pub any-unread : unread s ≡ (read_all judge taken).rest

@@ -9,7 +9,7 @@ use borrow.Author.Tests.{ltb-false, lt-ltb, le-ltb, eq-eqb, ne_eqb, eqb-true}
 use lib.Dec.{ltb, eqb}
 use lib.ListN.{length, take, length-append}
 use lib.Seq.{length-take-le, take-length}
-use Rattle.buffer.specs.Buffer.{Buffer, at_most, atFront, moved, allCleared, emptied, fitting, markFed, copied, feedCount, fedBuffer}
+use Rattle.buffer.specs.Buffer.{Buffer, at_most, at_front, moved, all_cleared, emptied, fitting, mark_fed, copied, feed_count, fed_buffer}
 use Rattle.buffer.specs.Clearing.{Clears, Keeps, Clearing}
 use Rattle.buffer.proofs.Figures.{capped, capped-under}
 
@@ -20,7 +20,7 @@ buffer-same a b u w f h p c m = λ i. record { unread = u i; wpos = w i; fed = f
 
 -- ---- the parts of `feed`, by the test that a program makes
 
-pub moved-when : (n : ℕ) (buffer : Buffer) → 512 - buffer.wpos < n → moved n buffer ≡ atFront buffer
+pub moved-when : (n : ℕ) (buffer : Buffer) → 512 - buffer.wpos < n → moved n buffer ≡ at_front buffer
 unfolding moved
 moved-when n buffer h = simp (lt-ltb _ _ h)
 
@@ -29,15 +29,15 @@ unfolding moved
 moved-not n buffer h = simp (le-ltb _ _ h)
 
 -- What moving to the front does not change.
-pub moved_same : {A : Type 0} (part : Buffer → A) (n : ℕ) (buffer : Buffer) → part (atFront buffer) ≡ part buffer → part (moved n buffer) ≡ part buffer
+pub moved_same : {A : Type 0} (part : Buffer → A) (n : ℕ) (buffer : Buffer) → part (at_front buffer) ≡ part buffer → part (moved n buffer) ≡ part buffer
 unfolding moved
 moved_same part n buffer same = by (ltb (512 - buffer.wpos) n)
   where
-    by : (b : Bool) → part (cond b (atFront buffer) buffer) ≡ part buffer
+    by : (b : Bool) → part (cond b (at_front buffer) buffer) ≡ part buffer
     by true = same
     by false = refl
 
-pub emptied-when : (buffer : Buffer) → buffer.wpos ≡ 512 → emptied buffer ≡ allCleared buffer
+pub emptied-when : (buffer : Buffer) → buffer.wpos ≡ 512 → emptied buffer ≡ all_cleared buffer
 unfolding emptied
 emptied-when buffer h = simp (eq-eqb _ _ h)
 
@@ -59,7 +59,7 @@ pub moved-fits : (n : ℕ) (buffer : Buffer) → Fits buffer → Fits (moved n b
 unfolding moved
 moved-fits n buffer fits = by (ltb (512 - buffer.wpos) n)
   where
-    by : (b : Bool) → Fits (cond b (atFront buffer) buffer)
+    by : (b : Bool) → Fits (cond b (at_front buffer) buffer)
     by true = record { low = omega arith; high = omega (arith, fits.low, fits.high); few = λ q. omega (arith, fits.few q) }
     by false = fits
 
@@ -67,16 +67,16 @@ emptied-fits : (buffer : Buffer) → Fits buffer → Fits (emptied buffer)
 unfolding emptied
 emptied-fits buffer fits = by (eqb buffer.wpos 512)
   where
-    by : (b : Bool) → Fits (cond b (allCleared buffer) buffer)
+    by : (b : Bool) → Fits (cond b (all_cleared buffer) buffer)
     by true = record { low = omega arith; high = omega arith; few = λ e. omega arith }
     by false = fits
 
 -- A nonempty piece takes the mark away.
-pub mark-off : (n : ℕ) (mark : Bool) → 0 < n → markFed n mark ≡ false
+pub mark-off : (n : ℕ) (mark : Bool) → 0 < n → mark_fed n mark ≡ false
 mark-off n mark some = simp (ne_eqb n 0 (λ q. omega arith))
 
 -- A mark that is there after a feed was there before it, and the piece was empty.
-pub mark-stays : (n : ℕ) (mark : Bool) → markFed n mark ≡ true → (n ≡ 0) × (mark ≡ true)
+pub mark-stays : (n : ℕ) (mark : Bool) → mark_fed n mark ≡ true → (n ≡ 0) × (mark ≡ true)
 mark-stays n mark = by (eqb n 0) refl
   where
     by : (b : Bool) → eqb n 0 ≡ b → cond b mark false ≡ true → (n ≡ 0) × (mark ≡ true)
@@ -96,8 +96,8 @@ copied-fits piece buffer f =
       few = λ e. let m = mark-stays (length piece) buffer.drained e in omega (arith, size, taken, h.high, m.0, f.few m.1);
     }
 
-pub feed-fits : (buffer : Buffer) (piece : List ℕ) → Fits buffer → Fits (fedBuffer buffer piece)
-unfolding fedBuffer feedCount
+pub feed-fits : (buffer : Buffer) (piece : List ℕ) → Fits buffer → Fits (fed_buffer buffer piece)
+unfolding fed_buffer feed_count
 feed-fits buffer piece fits = copied-fits piece (emptied (moved (length piece) buffer)) (emptied-fits _ (moved-fits (length piece) buffer fits))
 
 -- what is left free before the copying, with the unread bytes kept and so none cleared
@@ -107,9 +107,9 @@ record Free (buffer ready : Buffer) : Type 0 where
   room : ready.wpos < 512
 
 free-by : (buffer : Buffer) (n : ℕ) (b : Bool) → ltb (512 - buffer.wpos) n ≡ b → 0 < n → length buffer.unread < 512
-    → Free buffer (emptied (cond b (atFront buffer) buffer))
+    → Free buffer (emptied (cond b (at_front buffer) buffer))
 free-by buffer n true e some short =
-    let kept = emptied-not (atFront buffer) (λ q. omega arith) in
+    let kept = emptied-not (at_front buffer) (λ q. omega arith) in
     rw kept (record { same = refl; none-cleared = refl; room = short })
 free-by buffer n false e some short =
     let tail : n ≤ 512 - buffer.wpos = ltb-false _ _ e in
@@ -120,40 +120,40 @@ unfolding moved
 free buffer n some short = free-by buffer n _ refl some short
 
 -- `feed` takes no more than is offered.
-pub taken-most : (buffer : Buffer) (piece : List ℕ) → feedCount buffer piece ≤ length piece
-unfolding feedCount fitting
+pub taken-most : (buffer : Buffer) (piece : List ℕ) → feed_count buffer piece ≤ length piece
+unfolding feed_count fitting
 taken-most buffer piece = (capped (512 - (emptied (moved (length piece) buffer)).wpos) (length piece)).high
 
 -- ---- "So it clears (i) when 512 bytes lie unread, and (ii) on an empty piece when the tail is full, even if most bytes were read."
 
 -- `feed`, from what is ready for the copying
 feed-from : (buffer : Buffer) (piece : List ℕ) (ready : Buffer) → emptied (moved (length piece) buffer) ≡ ready
-    → (feedCount buffer piece ≡ fitting (length piece) ready) × (fedBuffer buffer piece ≡ copied piece (fitting (length piece) ready) ready)
-unfolding fedBuffer feedCount
+    → (feed_count buffer piece ≡ fitting (length piece) ready) × (fed_buffer buffer piece ≡ copied piece (fitting (length piece) ready) ready)
+unfolding fed_buffer feed_count
 feed-from buffer piece ready e = (ap (fitting (length piece)) e, ap (λ (l : Buffer). copied piece (fitting (length piece) l) l) e)
 
 -- (i) a piece of any length
-full-ready : (buffer : Buffer) (n : ℕ) → length buffer.unread ≡ 512 → buffer.wpos ≡ 512 → emptied (moved n buffer) ≡ allCleared buffer
+full-ready : (buffer : Buffer) (n : ℕ) → length buffer.unread ≡ 512 → buffer.wpos ≡ 512 → emptied (moved n buffer) ≡ all_cleared buffer
 unfolding moved
 full-ready buffer n all end = by (ltb (512 - buffer.wpos) n)
   where
-    by : (b : Bool) → emptied (cond b (atFront buffer) buffer) ≡ allCleared buffer
+    by : (b : Bool) → emptied (cond b (at_front buffer) buffer) ≡ all_cleared buffer
     by true = emptied-when _ all
     by false = emptied-when _ end
 
 -- (ii)
-empty-ready : (buffer : Buffer) → buffer.wpos ≡ 512 → emptied (moved 0 buffer) ≡ allCleared buffer
+empty-ready : (buffer : Buffer) → buffer.wpos ≡ 512 → emptied (moved 0 buffer) ≡ all_cleared buffer
 empty-ready buffer end = ap emptied (moved-not 0 buffer (omega arith)) ∙ emptied-when buffer end
 
 -- By what is ready for the copying: everything unread is cleared, or all of it is still there.
-clears-from : (buffer : Buffer) (piece : List ℕ) → emptied (moved (length piece) buffer) ≡ allCleared buffer → Clears buffer piece
-unfolding fedBuffer copied
+clears-from : (buffer : Buffer) (piece : List ℕ) → emptied (moved (length piece) buffer) ≡ all_cleared buffer → Clears buffer piece
+unfolding fed_buffer copied
 clears-from buffer piece e =
-    record { unread = ap (λ (l : Buffer). l.unread ++ take (feedCount buffer piece) piece) e; cleared = ap (λ (l : Buffer). l.cleared) e }
+    record { unread = ap (λ (l : Buffer). l.unread ++ take (feed_count buffer piece) piece) e; cleared = ap (λ (l : Buffer). l.cleared) e }
 
 keeps-from : (buffer : Buffer) (piece : List ℕ) → Free buffer (emptied (moved (length piece) buffer)) → Keeps buffer piece
-unfolding fedBuffer copied
-keeps-from buffer piece f = record { unread = ap (λ (l : List ℕ). l ++ take (feedCount buffer piece) piece) f.same; cleared = f.none-cleared }
+unfolding fed_buffer copied
+keeps-from buffer piece f = record { unread = ap (λ (l : List ℕ). l ++ take (feed_count buffer piece) piece) f.same; cleared = f.none-cleared }
 
 pub clearing : Clearing
 clearing =
@@ -167,17 +167,17 @@ clearing =
 -- what `feed` then did: nothing is lost, and a byte or more is taken
 pub record Taken (buffer : Buffer) (piece : List ℕ) : Type 0 where
   pub keeps : Keeps buffer piece
-  pub some : 0 < feedCount buffer piece
+  pub some : 0 < feed_count buffer piece
 
 -- Of a piece with a byte `feed` takes a byte or more and loses nothing, if fewer than 512 bytes are unread.
 pub taken : (buffer : Buffer) (piece : List ℕ) → 0 < length piece → length buffer.unread < 512 → Taken buffer piece
-unfolding feedCount fitting
+unfolding feed_count fitting
 taken buffer piece some short =
     let ready = emptied (moved (length piece) buffer) in
     let f = free buffer (length piece) some short in
     record { keeps = clearing.not_full buffer piece short some; some = (capped (512 - ready.wpos) (length piece)).some (omega (arith, f.room)) some }
 
-pub empty-clears : (buffer : Buffer) → buffer.wpos ≡ 512 → (feedCount buffer [] ≡ 0) × ((fedBuffer buffer []).unread ≡ []) × ((fedBuffer buffer []).wpos ≡ 0)
+pub empty-clears : (buffer : Buffer) → buffer.wpos ≡ 512 → (feed_count buffer [] ≡ 0) × ((fed_buffer buffer []).unread ≡ []) × ((fed_buffer buffer []).wpos ≡ 0)
 unfolding fitting copied
 empty-clears buffer end =
     let f = feed-from buffer [] _ (empty-ready buffer end) in
@@ -185,7 +185,7 @@ empty-clears buffer end =
 
 -- With nothing unread and all 512 bytes free, a piece that fits is taken whole.
 pub empty-takes : (buffer : Buffer) (piece : List ℕ) → buffer.unread ≡ [] → buffer.wpos ≡ 0 → length piece ≤ 512
-    → (feedCount buffer piece ≡ length piece) × ((fedBuffer buffer piece).unread ≡ piece) × ((fedBuffer buffer piece).wpos ≡ length piece)
+    → (feed_count buffer piece ≡ length piece) × ((fed_buffer buffer piece).unread ≡ piece) × ((fed_buffer buffer piece).wpos ≡ length piece)
 unfolding fitting copied
 empty-takes buffer piece none front fits =
     let n : at_most (512 - buffer.wpos) (length piece) ≡ length piece = capped-under (512 - buffer.wpos) (length piece) (omega arith) in

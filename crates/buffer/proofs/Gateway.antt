@@ -9,10 +9,10 @@ use borrow.Author.Tests.{ltb-false, ne_eqb, eqb-false}
 use lib.Dec.{ltb, eqb}
 use lib.ListN.{length, take}
 use lib.Seq.{take-length}
-use Rattle.refusals.specs.Refusals.{Refusal, ok, refused, notDrained}
-use Rattle.refusals.specs.Answers.{placeOr}
+use Rattle.refusals.specs.Refusals.{Refusal, ok, refused, not_drained}
+use Rattle.refusals.specs.Answers.{place_or}
 use Rattle.refusals.proofs.Different.{none}
-use Rattle.buffer.specs.Buffer.{Buffer, atFront, moved, emptied, fitting, copied, feedCount, fedBuffer, gatewayAnswer, gatewayCount, gatewayBuffer}
+use Rattle.buffer.specs.Buffer.{Buffer, at_front, moved, emptied, fitting, copied, feed_count, fed_buffer, gateway_answer, gateway_count, gateway_buffer}
 use Rattle.buffer.specs.Gateway.{NeverClears, GatewayFeed}
 use Rattle.buffer.proofs.Figures.{capped, capped-under}
 use Rattle.buffer.proofs.Feeding.{Fits, moved-fits, copied-fits, moved-when, moved_same, emptied-not, mark-off, taken}
@@ -31,21 +31,21 @@ module _ (buffer : Buffer) (piece : List ℕ) where
   abbrev fits : ℕ
   fits = fitting (length piece) ready
 
-  pub gateway-empty : eqb (length piece) 0 ≡ true → (gatewayAnswer buffer piece ≡ ok 0) × (gatewayBuffer buffer piece ≡ buffer)
-  unfolding gatewayAnswer gatewayBuffer
+  pub gateway-empty : eqb (length piece) 0 ≡ true → (gateway_answer buffer piece ≡ ok 0) × (gateway_buffer buffer piece ≡ buffer)
+  unfolding gateway_answer gateway_buffer
   gateway-empty e = (simp e, simp e)
 
   module _ (some : eqb (length piece) 0 ≡ false) where
-    pub gateway-takes : buffer.drained ≡ true → (gatewayAnswer buffer piece ≡ ok fits) × (gatewayBuffer buffer piece ≡ copied piece fits ready)
-    unfolding gatewayAnswer gatewayBuffer
+    pub gateway-takes : buffer.drained ≡ true → (gateway_answer buffer piece ≡ ok fits) × (gateway_buffer buffer piece ≡ copied piece fits ready)
+    unfolding gateway_answer gateway_buffer
     gateway-takes e = (simp (some, e), simp (some, e))
 
-    pub gateway-refuses : buffer.drained ≡ false → (gatewayAnswer buffer piece ≡ refused notDrained) × (gatewayBuffer buffer piece ≡ buffer)
-    unfolding gatewayAnswer gatewayBuffer
+    pub gateway-refuses : buffer.drained ≡ false → (gateway_answer buffer piece ≡ refused not_drained) × (gateway_buffer buffer piece ≡ buffer)
+    unfolding gateway_answer gateway_buffer
     gateway-refuses e = (simp (some, e), simp (some, e))
 
   -- Refused is a nonempty piece in a buffer that is not drained, and no other.
-  gateway-why : gatewayAnswer buffer piece ≡ refused notDrained → (0 < length piece) × (buffer.drained ≡ false)
+  gateway-why : gateway_answer buffer piece ≡ refused not_drained → (0 < length piece) × (buffer.drained ≡ false)
   gateway-why e = by (eqb (length piece) 0) refl buffer.drained refl
     where
       by : (a : Bool) → eqb (length piece) 0 ≡ a → (b : Bool) → buffer.drained ≡ b → (0 < length piece) × (b ≡ false)
@@ -57,46 +57,46 @@ module _ (buffer : Buffer) (piece : List ℕ) where
 
   -- nothing: the piece is empty, or it is refused
   pub record Stays : Type 0 where
-    pub none : gatewayCount buffer piece ≡ 0
-    pub same : gatewayBuffer buffer piece ≡ buffer
+    pub none : gateway_count buffer piece ≡ 0
+    pub same : gateway_buffer buffer piece ≡ buffer
 
   -- or it takes of a nonempty piece what fits
   pub record Takes : Type 0 where
     pub some : 0 < length piece
     pub drained : buffer.drained ≡ true
-    pub count : gatewayCount buffer piece ≡ fits
-    pub after : gatewayBuffer buffer piece ≡ copied piece fits ready
+    pub count : gateway_count buffer piece ≡ fits
+    pub after : gateway_buffer buffer piece ≡ copied piece fits ready
 
   pub goes : Stays ⊎ Takes
   goes = by (eqb (length piece) 0) refl buffer.drained refl
     where
       by : (a : Bool) → eqb (length piece) 0 ≡ a → (b : Bool) → buffer.drained ≡ b → Stays ⊎ Takes
-      by true e b m = let g = gateway-empty e in inl (record { none = ap (placeOr 0) g.0; same = g.1 })
+      by true e b m = let g = gateway-empty e in inl (record { none = ap (place_or 0) g.0; same = g.1 })
       by false e true m =
           let g = gateway-takes e m in
           let apart : length piece ≡ 0 → ⊥ = eqb-false _ _ e in
-          inr (record { some = omega arith; drained = m; count = ap (placeOr 0) g.0; after = g.1 })
-      by false e false m = let g = gateway-refuses e m in inl (record { none = ap (placeOr 0) g.0; same = g.1 })
+          inr (record { some = omega arith; drained = m; count = ap (place_or 0) g.0; after = g.1 })
+      by false e false m = let g = gateway-refuses e m in inl (record { none = ap (place_or 0) g.0; same = g.1 })
 
   -- It takes no more than is offered.
-  pub gateway-most : gatewayCount buffer piece ≤ length piece
+  pub gateway-most : gateway_count buffer piece ≤ length piece
   unfolding fitting
   gateway-most = ⊎_elim (λ s. omega (arith, s.none)) (λ t. rw t.count (capped (512 - ready.wpos) (length piece)).high) goes
 
   -- What was unread still is, with what was taken behind it.
-  pub gateway-keeps : (gatewayBuffer buffer piece).unread ≡ buffer.unread ++ take (gatewayCount buffer piece) piece
+  pub gateway-keeps : (gateway_buffer buffer piece).unread ≡ buffer.unread ++ take (gateway_count buffer piece) piece
   unfolding copied
   gateway-keeps =
       ⊎_elim (λ s. ap (λ (l : Buffer). l.unread) s.same ∙ sym (append-nil buffer.unread) ∙ ap (λ (n : ℕ). buffer.unread ++ take n piece) (sym s.none))
       (λ t. ap (λ (l : Buffer). l.unread) t.after ∙ (λ i. moved_same (λ (l : Buffer). l.unread) (length piece) buffer refl i ++ take (sym t.count i) piece))
       goes
 
-  pub gateway-cleared : (gatewayBuffer buffer piece).cleared ≡ buffer.cleared
+  pub gateway-cleared : (gateway_buffer buffer piece).cleared ≡ buffer.cleared
   unfolding copied
   gateway-cleared = ⊎_elim (λ s. ap (λ (l : Buffer). l.cleared) s.same) (λ t. ap (λ (l : Buffer). l.cleared) t.after ∙ moved_same (λ (l : Buffer). l.cleared) (length piece) buffer refl) goes
 
   -- A mark that is there after it was there before it, and nothing changed.
-  pub gateway-mark : (gatewayBuffer buffer piece).drained ≡ true → gatewayBuffer buffer piece ≡ buffer
+  pub gateway-mark : (gateway_buffer buffer piece).drained ≡ true → gateway_buffer buffer piece ≡ buffer
   unfolding copied
   gateway-mark m =
       ⊎_elim (λ s. s.same)
@@ -104,7 +104,7 @@ module _ (buffer : Buffer) (piece : List ℕ) where
       goes
 
   -- It leaves a buffer that calls can make.
-  pub gateway-fits : Fits buffer → Fits (gatewayBuffer buffer piece)
+  pub gateway-fits : Fits buffer → Fits (gateway_buffer buffer piece)
   gateway-fits f =
       ⊎_elim (λ s. subst Fits (sym s.same) f) (λ t. subst Fits (sym t.after) (copied-fits piece ready (moved-fits (length piece) buffer f))) goes
 
@@ -115,12 +115,12 @@ module _ (buffer : Buffer) (piece : List ℕ) where
   unfolding moved
   moved-room some short = by (ltb (512 - buffer.wpos) (length piece)) refl
     where
-      by : (b : Bool) → ltb (512 - buffer.wpos) (length piece) ≡ b → (cond b (atFront buffer) buffer).wpos < 512
+      by : (b : Bool) → ltb (512 - buffer.wpos) (length piece) ≡ b → (cond b (at_front buffer) buffer).wpos < 512
       by true e = short
       by false e = let tail : length piece ≤ 512 - buffer.wpos = ltb-false _ _ e in omega arith
 
   pub never-clears : buffer.drained ≡ true → length buffer.unread ≤ 109 → 0 < length piece → NeverClears buffer piece
-  unfolding feedCount fedBuffer
+  unfolding feed_count fed_buffer
   never-clears m few some =
       let room = moved-room some (omega arith) in
       let kept : emptied ready ≡ ready = emptied-not ready (λ q. omega arith) in
@@ -135,12 +135,12 @@ module _ (buffer : Buffer) (piece : List ℕ) where
 
   -- Where the tail is full, a piece that fits behind the unread bytes is taken whole.
   pub gateway-whole : buffer.drained ≡ true → buffer.wpos ≡ 512 → 0 < length piece → length buffer.unread + length piece ≤ 512
-      → (gatewayCount buffer piece ≡ length piece) × ((gatewayBuffer buffer piece).unread ≡ buffer.unread ++ piece)
+      → (gateway_count buffer piece ≡ length piece) × ((gateway_buffer buffer piece).unread ≡ buffer.unread ++ piece)
   unfolding fitting
   gateway-whole m end some room =
       let front = moved-when (length piece) buffer (omega arith) in
       let all : fits ≡ length piece = ap (λ (l : Buffer). fitting (length piece) l) front ∙ capped-under (512 - length buffer.unread) (length piece) (omega arith) in
-      let n = ap (placeOr 0) (gateway-takes (ne_eqb (length piece) 0 (λ q. omega arith)) m).0 ∙ all in
+      let n = ap (place_or 0) (gateway-takes (ne_eqb (length piece) 0 (λ q. omega arith)) m).0 ∙ all in
       (n, gateway-keeps ∙ ap (λ (k : ℕ). buffer.unread ++ take k piece) n ∙ ap (λ (l : List ℕ). buffer.unread ++ l) (take-length piece))
 
 pub gateway-feed : GatewayFeed

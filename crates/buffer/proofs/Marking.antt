@@ -7,7 +7,7 @@ use native.Mathlib.Omega.{arith}
 use borrow.Author.Tests.{ne_eqb}
 use lib.Dec.{eqb}
 use lib.ListN.{length}
-use Rattle.buffer.specs.Buffer.{Buffer, moved, allCleared, emptied, markFed, copied, fedBuffer, gatewayBuffer}
+use Rattle.buffer.specs.Buffer.{Buffer, moved, all_cleared, emptied, mark_fed, copied, fed_buffer, gateway_buffer}
 use Rattle.buffer.specs.Gateway.{Mark}
 use Rattle.buffer.proofs.Feeding.{moved_same, mark-off}
 use Rattle.buffer.proofs.Gateway.{gateway-takes, gateway-refuses, gateway-feed}
@@ -18,22 +18,22 @@ emptied-mark : (buffer : Buffer) → (emptied buffer).drained ≡ buffer.drained
 unfolding emptied
 emptied-mark buffer = by (eqb buffer.wpos 512)
   where
-    by : (b : Bool) → (cond b (allCleared buffer) buffer).drained ≡ buffer.drained
+    by : (b : Bool) → (cond b (all_cleared buffer) buffer).drained ≡ buffer.drained
     by true = refl
     by false = refl
 
-fed-mark : (buffer : Buffer) (piece : List ℕ) → (fedBuffer buffer piece).drained ≡ markFed (length piece) buffer.drained
-unfolding fedBuffer copied
-fed-mark buffer piece = ap (markFed (length piece)) (emptied-mark (moved (length piece) buffer) ∙ moved_same (λ (l : Buffer). l.drained) (length piece) buffer refl)
+fed-mark : (buffer : Buffer) (piece : List ℕ) → (fed_buffer buffer piece).drained ≡ mark_fed (length piece) buffer.drained
+unfolding fed_buffer copied
+fed-mark buffer piece = ap (mark_fed (length piece)) (emptied-mark (moved (length piece) buffer) ∙ moved_same (λ (l : Buffer). l.drained) (length piece) buffer refl)
 
-gateway-off : (buffer : Buffer) (piece : List ℕ) → 0 < length piece → (gatewayBuffer buffer piece).drained ≡ false
+gateway-off : (buffer : Buffer) (piece : List ℕ) → 0 < length piece → (gateway_buffer buffer piece).drained ≡ false
 unfolding copied
 gateway-off buffer piece some = by buffer.drained refl
   where
     nonempty : eqb (length piece) 0 ≡ false
     nonempty = ne_eqb (length piece) 0 (λ q. omega arith)
 
-    by : (m : Bool) → buffer.drained ≡ m → (gatewayBuffer buffer piece).drained ≡ false
+    by : (m : Bool) → buffer.drained ≡ m → (gateway_buffer buffer piece).drained ≡ false
     by true e = ap (λ (l : Buffer). l.drained) (gateway-takes buffer piece nonempty e).1 ∙ mark-off (length piece) _ some
     by false e = ap (λ (l : Buffer). l.drained) (gateway-refuses buffer piece nonempty e).1 ∙ e
 
@@ -45,5 +45,5 @@ mark =
       feed = λ buffer piece some. fed-mark buffer piece ∙ mark-off (length piece) _ some;
       gateway-feed = gateway-off;
       empty = λ buffer. fed-mark buffer [];
-      emptied-refused = λ buffer piece m some. (gateway-feed.not-drained (fedBuffer buffer []) piece).1 (some, fed-mark buffer [] ∙ m);
+      emptied-refused = λ buffer piece m some. (gateway-feed.not-drained (fed_buffer buffer []) piece).1 (some, fed-mark buffer [] ∙ m);
     }

@@ -6,12 +6,12 @@ use Prim.Native.Nat.{ℕ, zero, suc, ◌+◌, ◌<◌, ◌≤◌}
 use native.Mathlib.Omega.{arith}
 use lib.ListN.{length, take, drop, length-append, length-drop, take-append-drop}
 use lib.Seq.{drop-nil}
-use Rattle.stream.specs.Reading.{notYet, Judge, Reading, Steady, stops, readFrom, read_all, repliesOf, joined}
+use Rattle.stream.specs.Reading.{not_yet, Judge, Reading, Steady, stops, read_from, read_all, replies_of, joined}
 use Rattle.stream.specs.Lateness.{ToldBefore, InTime}
 use Rattle.stream.specs.Searching.{Search, found, nothing, search}
 use Rattle.stream.proofs.Turns.{idle}
 use Rattle.stream.proofs.Frames.{replies-append}
-use Rattle.stream.proofs.Joined.{behind, unreadPlace, reading-joined}
+use Rattle.stream.proofs.Joined.{behind, unread_place, reading-joined}
 use Rattle.stream.proofs.Search.{read_on, found-fewer, nothing-waits, search-reading}
 use Rattle.stream.proofs.Lateness as lateness
 use Rattle.buffer.specs.Runs.{Calls, again, EachPiece, Asked, ends, gives}
@@ -78,15 +78,15 @@ pub record Faithful {R : Type 0} (judge : Judge R) (calls : Calls R) (unread : c
 
 -- the replies, and what is left unread, are what the reading of l gives and leaves, wherever l stands
 pub record Comes {R : Type 0} (judge : Judge R) (replies : List R) (rest l : List ℕ) : Type 0 where
-  pub same-replies : (place : ℕ) → replies ≡ repliesOf (readFrom judge place l).frames
-  pub same_rest : (place : ℕ) → rest ≡ (readFrom judge place l).rest
+  pub same-replies : (place : ℕ) → replies ≡ replies_of (read_from judge place l).frames
+  pub same_rest : (place : ℕ) → rest ≡ (read_from judge place l).rest
 
 module _ {R : Type 0} (judge : Judge R) (steady : Steady judge) where
-  pub comes-by : {replies : List R} {rest : List ℕ} (l : List ℕ) (o : ℕ → Reading R) → ((place : ℕ) → readFrom judge place l ≡ o place)
-      → ((place : ℕ) → replies ≡ repliesOf (o place).frames) → ((place : ℕ) → rest ≡ (o place).rest) → Comes judge replies rest l
+  pub comes-by : {replies : List R} {rest : List ℕ} (l : List ℕ) (o : ℕ → Reading R) → ((place : ℕ) → read_from judge place l ≡ o place)
+      → ((place : ℕ) → replies ≡ replies_of (o place).frames) → ((place : ℕ) → rest ≡ (o place).rest) → Comes judge replies rest l
   comes-by l o e replies rest =
       record {
-        same-replies = λ place. replies place ∙ sym (ap (λ (x : Reading R). repliesOf x.frames) (e place));
+        same-replies = λ place. replies place ∙ sym (ap (λ (x : Reading R). replies_of x.frames) (e place));
         same_rest = λ place. rest place ∙ sym (ap (λ (x : Reading R). x.rest) (e place));
       }
 
@@ -97,16 +97,16 @@ module _ {R : Type 0} (judge : Judge R) (steady : Steady judge) where
   pub comes-on : {replies new : List R} {rest last : List ℕ} (taken more : List ℕ) → Comes judge replies rest taken → Comes judge new last (rest ++ more)
       → Comes judge (replies ++ new) last (taken ++ more)
   comes-on {rest = rest} taken more a b =
-      let first : ℕ → Reading R = λ place. readFrom judge place taken in
-      let at : ℕ → ℕ = λ place. unreadPlace place taken (first place) in
-      comes-by (taken ++ more) (λ place. behind (first place).frames (readFrom judge (at place) (rest ++ more)))
+      let first : ℕ → Reading R = λ place. read_from judge place taken in
+      let at : ℕ → ℕ = λ place. unread_place place taken (first place) in
+      comes-by (taken ++ more) (λ place. behind (first place).frames (read_from judge (at place) (rest ++ more)))
       (λ place. reading-joined judge steady place taken more
-      ∙ sym (ap (λ (l : List ℕ). behind (first place).frames (readFrom judge (at place) (l ++ more))) (a.same_rest place)))
+      ∙ sym (ap (λ (l : List ℕ). behind (first place).frames (read_from judge (at place) (l ++ more))) (a.same_rest place)))
       (λ place. (λ i. a.same-replies place i ++ b.same-replies (at place) i) ∙ sym (replies-append (first place).frames _))
       (λ place. b.same_rest (at place))
 
   -- what comes where a search found nothing, or a frame
-  searched : (l : List ℕ) (s : Search R) → search judge l ≡ s → (place : ℕ) → readFrom judge place l ≡ read_on judge place s
+  searched : (l : List ℕ) (s : Search R) → search judge l ≡ s → (place : ℕ) → read_from judge place l ≡ read_on judge place s
   searched l s e place = search-reading judge steady place l ∙ ap (read_on judge place) e
 
   pub comes-none : (l : List ℕ) (over : ℕ) (rest : List ℕ) → search judge l ≡ nothing over rest → Comes judge [] rest l
@@ -142,7 +142,7 @@ module _ {R : Type 0} (judge : Judge R) (steady : Steady judge) (calls : Calls R
   asking-ends answers s = ends-in (suc (length (unread s))) s answers (omega arith)
 
   -- Where `next` gave nothing, the judge can't tell more of what is unread.
-  pub nothing-more : {s t : calls.State} → calls.GivesNothing s t → judge (unread t) ≡ notYet
+  pub nothing-more : {s t : calls.State} → calls.GivesNothing s t → judge (unread t) ≡ not_yet
   nothing-more {s} {t} none = let f = next.nothing none in nothing-waits judge steady (unread s) f.0 (unread t) f.1
 
 module _ {R : Type 0} (judge : Judge R) (steady : Steady judge) (calls : Calls R) (unread : calls.State → List ℕ) (Ready : calls.State → Type 0)
@@ -171,7 +171,7 @@ module _ {R : Type 0} (judge : Judge R) (steady : Steady judge) (calls : Calls R
 
   module _ {Free : Type 0} {pieces ahead : List (List ℕ)} {taken : List ℕ} {replies : List R} {s : calls.State} (run : Run calls Free pieces ahead taken replies s) where
     -- "the replies are those of one left-to-right reading .., in order and no others": of what was taken; and what that reading leaves is unread
-    pub run-replies : replies ≡ repliesOf (read_all judge taken).frames
+    pub run-replies : replies ≡ replies_of (read_all judge taken).frames
     run-replies = (run-comes run).same-replies 0
 
     pub run-unread : unread s ≡ (read_all judge taken).rest

@@ -8,7 +8,7 @@ use lib.ListN.{length, take, length-append}
 use lib.Seq.{length-take-le}
 use Rattle.stream.specs.Reading.{Judge}
 use Rattle.buffer.specs.Runs.{Calls, Asked, ends, gives, Run, starts, offers, asks, recuts, InUse, is-fresh, is-fed, gave-reply, gave-nothing}
-use Rattle.buffer.specs.Runs.{Totals, noneYet, Reached, at_first, by-feed, by-reply, by-nothing}
+use Rattle.buffer.specs.Runs.{Totals, none_yet, Reached, at_first, by-feed, by-reply, by-nothing}
 use Rattle.buffer.proofs.Runs.{Faithful}
 
 -- The states of a run are in use.
@@ -35,7 +35,7 @@ module _ {R : Type 0} (judge : Judge R) (calls : Calls R) (unread : calls.State 
   pub record NoneCleared (s : calls.State) : Type 0 where
     pub totals : Totals
     pub reached : Reached calls unread totals s
-    pub none : totals.bytesCleared ≡ 0
+    pub none : totals.bytes_cleared ≡ 0
 
   -- What is unread after a `feed` is what was, and what was copied.
   pub none-cleared : {asked : Bool} {s : calls.State} → InUse calls asked s → NoneCleared s

@@ -2,17 +2,17 @@
 -- empty piece when the tail is full, even if most bytes were read."
 use Rattle.std.specs.Prelude.{◌≡◌, List, [], ◌++◌, ℕ, ◌<◌, length, take}
 use Rattle.format.specs.Format.{capacity}
-use Rattle.buffer.specs.Buffer.{Buffer, raised, feedCount, fedBuffer}
+use Rattle.buffer.specs.Buffer.{Buffer, raised, feed_count, fed_buffer}
 
 -- `feed` of the piece cleared what was unread: only what it copied is unread then
 pub record Clears (buffer : Buffer) (piece : List ℕ) : Type 0 where
-  pub unread : (fedBuffer buffer piece).unread ≡ take (feedCount buffer piece) piece
-  pub cleared : (fedBuffer buffer piece).cleared ≡ raised buffer.cleared (length buffer.unread)
+  pub unread : (fed_buffer buffer piece).unread ≡ take (feed_count buffer piece) piece
+  pub cleared : (fed_buffer buffer piece).cleared ≡ raised buffer.cleared (length buffer.unread)
 
 -- it cleared nothing
 pub record Keeps (buffer : Buffer) (piece : List ℕ) : Type 0 where
-  pub unread : (fedBuffer buffer piece).unread ≡ buffer.unread ++ take (feedCount buffer piece) piece
-  pub cleared : (fedBuffer buffer piece).cleared ≡ buffer.cleared
+  pub unread : (fed_buffer buffer piece).unread ≡ buffer.unread ++ take (feed_count buffer piece) piece
+  pub cleared : (fed_buffer buffer piece).cleared ≡ buffer.cleared
 
 pub record Clearing : Type 0 where
   -- (i)

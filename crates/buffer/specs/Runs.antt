@@ -96,32 +96,32 @@ module _ {R : Type 0} (calls : Calls R) where
 
 -- how many bytes calls copied, gave, moved over and cleared in all
 pub record Totals : Type 0 where
-  pub bytesCopied : ℕ
-  pub bytesGiven : ℕ
-  pub bytesMovedOver : ℕ
-  pub bytesCleared : ℕ
+  pub bytes_copied : ℕ
+  pub bytes_given : ℕ
+  pub bytes_moved_over : ℕ
+  pub bytes_cleared : ℕ
 
-abbrev pub noneYet : Totals
-noneYet = record { bytesCopied = 0; bytesGiven = 0; bytesMovedOver = 0; bytesCleared = 0 }
+abbrev pub none_yet : Totals
+none_yet = record { bytes_copied = 0; bytes_given = 0; bytes_moved_over = 0; bytes_cleared = 0 }
 
 -- with one more `feed`, which copied n bytes; `before` bytes were unread before it, `after` bytes after it. What is gone was cleared
-abbrev pub withFeed : (n before after : ℕ) → Totals → Totals
-withFeed n before after totals =
+abbrev pub with_feed : (n before after : ℕ) → Totals → Totals
+with_feed n before after totals =
     record {
-      bytesCopied = totals.bytesCopied + n;
-      bytesGiven = totals.bytesGiven;
-      bytesMovedOver = totals.bytesMovedOver;
-      bytesCleared = totals.bytesCleared + (before + n - after);
+      bytes_copied = totals.bytes_copied + n;
+      bytes_given = totals.bytes_given;
+      bytes_moved_over = totals.bytes_moved_over;
+      bytes_cleared = totals.bytes_cleared + (before + n - after);
     }
 
 -- with one more `next`, which gave a frame of n bytes, or nothing, and then n is 0. What is gone besides was moved over
 abbrev pub with_next : (n before after : ℕ) → Totals → Totals
 with_next n before after totals =
     record {
-      bytesCopied = totals.bytesCopied;
-      bytesGiven = totals.bytesGiven + n;
-      bytesMovedOver = totals.bytesMovedOver + (before - n - after);
-      bytesCleared = totals.bytesCleared;
+      bytes_copied = totals.bytes_copied;
+      bytes_given = totals.bytes_given + n;
+      bytes_moved_over = totals.bytes_moved_over + (before - n - after);
+      bytes_cleared = totals.bytes_cleared;
     }
 
 module _ {R : Type 0} (calls : Calls R) (unread : calls.State → List ℕ) where
@@ -131,9 +131,9 @@ module _ {R : Type 0} (calls : Calls R) (unread : calls.State → List ℕ) wher
   -- any calls whatever, in any order, from a fresh state on, and what they did in all. That is told from outside: by the
   -- counts that they return, and by how many bytes are unread before and after each
   pub data Reached : Totals → calls.State → Type 0 where
-    at_first : {s : calls.State} → calls.Fresh s → Reached noneYet s
+    at_first : {s : calls.State} → calls.Fresh s → Reached none_yet s
     by-feed : {totals : Totals} {s t : calls.State} {piece : List ℕ} {n : ℕ}
-        → Reached totals s → calls.Feeds s piece n t → Reached (withFeed n (held s) (held t) totals) t
+        → Reached totals s → calls.Feeds s piece n t → Reached (with_feed n (held s) (held t) totals) t
     by-reply : {totals : Totals} {s t : calls.State} {n : ℕ} {reply : R}
         → Reached totals s → calls.Gives s n reply t → Reached (with_next n (held s) (held t) totals) t
     by-nothing : {totals : Totals} {s t : calls.State}

@@ -6,7 +6,7 @@ use native.Mathlib.Numerals.{add-one}
 use native.Mathlib.Omega.{arith}
 use lib.ListN.{length, get_or, drop, drop_of_length-le}
 use lib.Seq.{drop-cons}
-use Rattle.checksum.specs.Xmodem.{step_of, steps_of, byteInOf, registerFrom, registerOf}
+use Rattle.checksum.specs.Xmodem.{step_of, steps_of, byte_in_of, register_from, register_of}
 
 pub step-more : (left register next answer : ℕ) → 0 < left → next ≡ step_of register → steps_of left register ≡ answer → steps_of (left - 1) next ≡ answer
 unfolding steps_of
@@ -19,11 +19,11 @@ step-last zero register answer h inv = inv
 step-last (suc left) register answer h inv = absurd (omega arith)
 
 module _ (message : List ℕ) (at register : ℕ) where
-  pub byte_more : (next : ℕ) → at < length message → next ≡ byteInOf register (get_or message at 0)
-      → registerFrom register (drop at message) ≡ registerOf message → registerFrom next (drop (at + 1) message) ≡ registerOf message
-  unfolding registerFrom
+  pub byte_more : (next : ℕ) → at < length message → next ≡ byte_in_of register (get_or message at 0)
+      → register_from register (drop at message) ≡ register_of message → register_from next (drop (at + 1) message) ≡ register_of message
+  unfolding register_from
   byte_more next h e inv = rw (e, add-one) (rw (drop-cons message at 0 h) at inv)
 
-  pub byte_last : length message ≤ at → registerFrom register (drop at message) ≡ registerOf message → register ≡ registerOf message
-  unfolding registerFrom
+  pub byte_last : length message ≤ at → register_from register (drop at message) ≡ register_of message → register ≡ register_of message
+  unfolding register_from
   byte_last h inv = rw (drop_of_length-le message h) at inv

@@ -1,6 +1,6 @@
 // CRC-16/XMODEM, bit by bit. The Rust takes it from the crate crc: `CRC16.checksum` in src/command.rs.
 ghost use Rattle.std.specs.Prelude.{◌≡◌};
-ghost use Rattle.checksum.specs.Xmodem.{checksumOf, step_of, byteInOf};
+ghost use Rattle.checksum.specs.Xmodem.{checksum_of, step_of, byte_in_of};
 
 // The bit that leaves, times 0x1021, is the polynomial or nothing: no branch on it.
 fn step(register: u16) -> u16
@@ -12,7 +12,7 @@ fn step(register: u16) -> u16
 // The register once a byte more has gone in. The sum of a message is the register after all its bytes,
 // from 0: for a message whose bytes stand in no slice.
 pub fn byte_in(register: u16, byte: u8) -> u16
-    ensures { result ≡ byteInOf register byte }
+    ensures { result ≡ byte_in_of register byte }
 {
     let mut mixed = register ^ ((byte as u16) << 8);
     let mut left: usize = 8;
@@ -26,7 +26,7 @@ pub fn byte_in(register: u16, byte: u8) -> u16
 // The sum of a message: the remainder of its bits, with sixteen zeros after them, divided by
 // 0x11021.
 pub fn checksum(bytes: &[u8]) -> u16
-    ensures { result ≡ checksumOf bytes.now }
+    ensures { result ≡ checksum_of bytes.now }
 {
     let mut register: u16 = 0;
     let mut at: usize = 0;

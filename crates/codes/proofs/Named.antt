@@ -11,7 +11,7 @@ use lib.ListN.{length, get_or, get_or-eq_default}
 use Rattle.codes.specs.declared.FaultCode.TheVariants as FaultCode
 use Rattle.codes.specs.declared.HwType.TheVariants as HwType
 use Rattle.codes.specs.declared.QmlHw.TheVariants as QmlHw
-use Rattle.codes.specs.Codes.{faults, faultOf, faultNumber, hwTypeOf, hwTypeNumber, qmlHwOf, qmlHwNumber}
+use Rattle.codes.specs.Codes.{faults, fault_of, fault_number, hw_type_of, hw_type_number, qml_hw_of, qml_hw_number}
 
 -- ---- any list of names
 module _ {A : Type 0} where
@@ -52,10 +52,10 @@ module _ {A : Type 0} where
       }
 
 -- ---- faults
-pub fault-numbered : Numbered 30 faultOf faultNumber FaultCode.Unknown
-unfolding faultOf
+pub fault-numbered : Numbered 30 fault_of fault_number FaultCode.Unknown
+unfolding fault_of
 fault-numbered =
-    by_names faultNumber faults FaultCode.Unknown tt (elim [
+    by_names fault_number faults FaultCode.Unknown tt (elim [
       | FaultCode.None ↦ refl
       | FaultCode.OverVoltage ↦ refl
       | FaultCode.UnderVoltage ↦ refl
@@ -90,15 +90,15 @@ fault-numbered =
     ])
 
 -- ---- hardware
-pub hw-type-numbered : Numbered 3 hwTypeOf hwTypeNumber HwType.Unknown
-unfolding hwTypeOf
+pub hw-type-numbered : Numbered 3 hw_type_of hw_type_number HwType.Unknown
+unfolding hw_type_of
 hw-type-numbered =
-    by_names hwTypeNumber (HwType.Vesc ∷ HwType.VescBms ∷ HwType.CustomModule ∷ []) HwType.Unknown tt
+    by_names hw_type_number (HwType.Vesc ∷ HwType.VescBms ∷ HwType.CustomModule ∷ []) HwType.Unknown tt
     (elim [ HwType.Vesc ↦ refl | HwType.VescBms ↦ refl | HwType.CustomModule ↦ refl | HwType.Unknown ↦ refl ])
 
 -- ---- QML interfaces
-pub qml-hw-numbered : Numbered 3 qmlHwOf qmlHwNumber QmlHw.Unknown
-unfolding qmlHwOf
+pub qml-hw-numbered : Numbered 3 qml_hw_of qml_hw_number QmlHw.Unknown
+unfolding qml_hw_of
 qml-hw-numbered =
-    by_names qmlHwNumber (QmlHw.None ∷ QmlHw.Embedded ∷ QmlHw.Fullscreen ∷ []) QmlHw.Unknown tt
+    by_names qml_hw_number (QmlHw.None ∷ QmlHw.Embedded ∷ QmlHw.Fullscreen ∷ []) QmlHw.Unknown tt
     (elim [ QmlHw.None ↦ refl | QmlHw.Embedded ↦ refl | QmlHw.Fullscreen ↦ refl | QmlHw.Unknown ↦ refl ])

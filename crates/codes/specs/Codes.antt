@@ -42,61 +42,61 @@ faults =
     ∷ FaultCode.LvOutputFault
     ∷ []
 
-unfoldable pub faultOf : ℕ → FaultCode
-faultOf n = get_or faults n FaultCode.Unknown
+unfoldable pub fault_of : ℕ → FaultCode
+fault_of n = get_or faults n FaultCode.Unknown
 
 -- each one's number: its byte, and 255 for no name
-abbrev pub faultNumber : FaultCode → ℕ
-faultNumber FaultCode.None = 0
-faultNumber FaultCode.OverVoltage = 1
-faultNumber FaultCode.UnderVoltage = 2
-faultNumber FaultCode.Drv = 3
-faultNumber FaultCode.AbsOverCurrent = 4
-faultNumber FaultCode.OverTempFet = 5
-faultNumber FaultCode.OverTempMotor = 6
-faultNumber FaultCode.GateDriverOverVoltage = 7
-faultNumber FaultCode.GateDriverUnderVoltage = 8
-faultNumber FaultCode.McuUnderVoltage = 9
-faultNumber FaultCode.BootingFromWatchdogReset = 10
-faultNumber FaultCode.EncoderSpi = 11
-faultNumber FaultCode.EncoderSinCosBelowMinAmplitude = 12
-faultNumber FaultCode.EncoderSinCosAboveMaxAmplitude = 13
-faultNumber FaultCode.FlashCorruption = 14
-faultNumber FaultCode.HighOffsetCurrentSensor1 = 15
-faultNumber FaultCode.HighOffsetCurrentSensor2 = 16
-faultNumber FaultCode.HighOffsetCurrentSensor3 = 17
-faultNumber FaultCode.UnbalancedCurrents = 18
-faultNumber FaultCode.Brk = 19
-faultNumber FaultCode.ResolverLot = 20
-faultNumber FaultCode.ResolverDos = 21
-faultNumber FaultCode.ResolverLos = 22
-faultNumber FaultCode.FlashCorruptionAppCfg = 23
-faultNumber FaultCode.FlashCorruptionMcCfg = 24
-faultNumber FaultCode.EncoderNoMagnet = 25
-faultNumber FaultCode.EncoderMagnetTooStrong = 26
-faultNumber FaultCode.PhaseFilter = 27
-faultNumber FaultCode.EncoderFault = 28
-faultNumber FaultCode.LvOutputFault = 29
-faultNumber FaultCode.Unknown = 255
+abbrev pub fault_number : FaultCode → ℕ
+fault_number FaultCode.None = 0
+fault_number FaultCode.OverVoltage = 1
+fault_number FaultCode.UnderVoltage = 2
+fault_number FaultCode.Drv = 3
+fault_number FaultCode.AbsOverCurrent = 4
+fault_number FaultCode.OverTempFet = 5
+fault_number FaultCode.OverTempMotor = 6
+fault_number FaultCode.GateDriverOverVoltage = 7
+fault_number FaultCode.GateDriverUnderVoltage = 8
+fault_number FaultCode.McuUnderVoltage = 9
+fault_number FaultCode.BootingFromWatchdogReset = 10
+fault_number FaultCode.EncoderSpi = 11
+fault_number FaultCode.EncoderSinCosBelowMinAmplitude = 12
+fault_number FaultCode.EncoderSinCosAboveMaxAmplitude = 13
+fault_number FaultCode.FlashCorruption = 14
+fault_number FaultCode.HighOffsetCurrentSensor1 = 15
+fault_number FaultCode.HighOffsetCurrentSensor2 = 16
+fault_number FaultCode.HighOffsetCurrentSensor3 = 17
+fault_number FaultCode.UnbalancedCurrents = 18
+fault_number FaultCode.Brk = 19
+fault_number FaultCode.ResolverLot = 20
+fault_number FaultCode.ResolverDos = 21
+fault_number FaultCode.ResolverLos = 22
+fault_number FaultCode.FlashCorruptionAppCfg = 23
+fault_number FaultCode.FlashCorruptionMcCfg = 24
+fault_number FaultCode.EncoderNoMagnet = 25
+fault_number FaultCode.EncoderMagnetTooStrong = 26
+fault_number FaultCode.PhaseFilter = 27
+fault_number FaultCode.EncoderFault = 28
+fault_number FaultCode.LvOutputFault = 29
+fault_number FaultCode.Unknown = 255
 
 -- "Hardware kinds 0 to 2 are named,"
-unfoldable pub hwTypeOf : ℕ → HwType
-hwTypeOf n = get_or (HwType.Vesc ∷ HwType.VescBms ∷ HwType.CustomModule ∷ []) n HwType.Unknown
+unfoldable pub hw_type_of : ℕ → HwType
+hw_type_of n = get_or (HwType.Vesc ∷ HwType.VescBms ∷ HwType.CustomModule ∷ []) n HwType.Unknown
 
 -- each one's number: its byte, and 255 for no name
-abbrev pub hwTypeNumber : HwType → ℕ
-hwTypeNumber HwType.Vesc = 0
-hwTypeNumber HwType.VescBms = 1
-hwTypeNumber HwType.CustomModule = 2
-hwTypeNumber HwType.Unknown = 255
+abbrev pub hw_type_number : HwType → ℕ
+hw_type_number HwType.Vesc = 0
+hw_type_number HwType.VescBms = 1
+hw_type_number HwType.CustomModule = 2
+hw_type_number HwType.Unknown = 255
 
 -- "likewise qml_hw."
-unfoldable pub qmlHwOf : ℕ → QmlHw
-qmlHwOf n = get_or (QmlHw.None ∷ QmlHw.Embedded ∷ QmlHw.Fullscreen ∷ []) n QmlHw.Unknown
+unfoldable pub qml_hw_of : ℕ → QmlHw
+qml_hw_of n = get_or (QmlHw.None ∷ QmlHw.Embedded ∷ QmlHw.Fullscreen ∷ []) n QmlHw.Unknown
 
 -- each one's number: its byte, and 255 for no name
-abbrev pub qmlHwNumber : QmlHw → ℕ
-qmlHwNumber QmlHw.None = 0
-qmlHwNumber QmlHw.Embedded = 1
-qmlHwNumber QmlHw.Fullscreen = 2
-qmlHwNumber QmlHw.Unknown = 255
+abbrev pub qml_hw_number : QmlHw → ℕ
+qml_hw_number QmlHw.None = 0
+qml_hw_number QmlHw.Embedded = 1
+qml_hw_number QmlHw.Fullscreen = 2
+qml_hw_number QmlHw.Unknown = 255

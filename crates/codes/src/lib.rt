@@ -1,7 +1,7 @@
 // The kinds that a byte of a reply tells: faults, hardware, QML interface. Ports `FaultCode`, `HwType`
 // and `QmlHw` of src/command.rs.
 ghost use Rattle.std.specs.Prelude.{◌≡◌};
-ghost use Rattle.codes.specs.Codes.{faultOf, faultNumber, hwTypeOf, hwTypeNumber, qmlHwOf, qmlHwNumber};
+ghost use Rattle.codes.specs.Codes.{fault_of, fault_number, hw_type_of, hw_type_number, qml_hw_of, qml_hw_number};
 
 // An error condition or hardware failure that a controller reports.
 #[derive(Drop)]
@@ -92,7 +92,7 @@ const FAULT_CODES: [FaultCode; 30] = [
 ];
 
 pub fn fault_code(byte: u8) -> FaultCode
-    ensures { result ≡ faultOf byte }
+    ensures { result ≡ fault_of byte }
 {
     if byte < 30 {
         let i = byte as usize;
@@ -102,7 +102,7 @@ pub fn fault_code(byte: u8) -> FaultCode
 }
 
 pub fn hw_type(byte: u8) -> HwType
-    ensures { result ≡ hwTypeOf byte }
+    ensures { result ≡ hw_type_of byte }
 {
     match byte {
         0 => HwType::Vesc,
@@ -113,7 +113,7 @@ pub fn hw_type(byte: u8) -> HwType
 }
 
 pub fn qml_hw(byte: u8) -> QmlHw
-    ensures { result ≡ qmlHwOf byte }
+    ensures { result ≡ qml_hw_of byte }
 {
     match byte {
         0 => QmlHw::None,
@@ -125,7 +125,7 @@ pub fn qml_hw(byte: u8) -> QmlHw
 
 // And back: the numbers of the Rust, 255 for the unknown.
 pub fn fault_number(fault: FaultCode) -> u8
-    ensures { result ≡ faultNumber fault }
+    ensures { result ≡ fault_number fault }
 {
     match fault {
         FaultCode::None => 0,
@@ -163,7 +163,7 @@ pub fn fault_number(fault: FaultCode) -> u8
 }
 
 pub fn hw_type_number(hw: HwType) -> u8
-    ensures { result ≡ hwTypeNumber hw }
+    ensures { result ≡ hw_type_number hw }
 {
     match hw {
         HwType::Vesc => 0,
@@ -174,7 +174,7 @@ pub fn hw_type_number(hw: HwType) -> u8
 }
 
 pub fn qml_hw_number(qml: QmlHw) -> u8
-    ensures { result ≡ qmlHwNumber qml }
+    ensures { result ≡ qml_hw_number qml }
 {
     match qml {
         QmlHw::None => 0,

@@ -2,7 +2,7 @@
 // `encode`: masks, commands and `pack_into`; document 01, "Commands". Their ids and bytes are in crate `raw_command`.
 ghost use Rattle.std.specs.Prelude.{◌≡◌};
 ghost use Rattle.packer.specs.Packing.{PackIs};
-ghost use Rattle.command.specs.Commands.{rawOf, bytes_of, size_of};
+ghost use Rattle.command.specs.Commands.{raw_of, bytes_of, size_of};
 
 use packer::Packed;
 use raw_command::RawCommand;
@@ -57,7 +57,7 @@ pub enum Command {
 
 // The command with the whole number that is sent: a value times its scale, toward zero and held.
 pub fn raw_of(command: Command) -> RawCommand
-    ensures { result ≡ rawOf command }
+    ensures { result ≡ raw_of command }
 {
     match command {
         Command::FwVersion => RawCommand::FwVersion,

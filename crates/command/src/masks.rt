@@ -1,7 +1,7 @@
 // Masks: which telemetry fields a selective query asks for. Ports the three bitflags of src/command.rs, each as constants that
 // a caller joins by `|`.
 ghost use Rattle.std.specs.Prelude.{◌++◌, ◌≡◌};
-ghost use Rattle.format.specs.Format.{valuesBits, setupBits, statsBits};
+ghost use Rattle.format.specs.Format.{values_bit_count, setup_bit_count, stats_bit_count};
 ghost use Rattle.command.specs.Masks.{powers};
 
 // The fields that `Command::GetValuesSelective` asks for.
@@ -134,7 +134,7 @@ impl StatsMask {
 
 // Every mask, in the order of its bits: the test that none is missing and none stands twice.
 fn each() -> [u32; format::MASK_BITS]
-    ensures { result ≡ powers valuesBits ++ (powers setupBits ++ powers statsBits) }
+    ensures { result ≡ powers values_bit_count ++ (powers setup_bit_count ++ powers stats_bit_count) }
 {
     [
         ValuesMask::TEMP_MOSFET,

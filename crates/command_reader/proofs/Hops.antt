@@ -9,30 +9,30 @@ use lib.Dec.{eqb}
 use lib.ListN.{length, get_or, take, drop, length-drop}
 use lib.Seq.{drop-cons}
 use borrow.Author.Tests.{eq-eqb, ne_eqb, eqb-true}
-use Rattle.encode.specs.Payload.{hopBytes}
-use Rattle.command_reader.specs.Reader.{hopSize}
-use Rattle.command_reader.specs.Writer.{isHops}
+use Rattle.encode.specs.Payload.{hop_bytes}
+use Rattle.command_reader.specs.Reader.{hop_size}
+use Rattle.command_reader.specs.Writer.{is_hops}
 
 -- ---- there are no more hops than bytes
 
-pub hops-within : (bytes : List ℕ) → hopSize bytes ≤ length bytes
-unfolding hopSize
+pub hops-within : (bytes : List ℕ) → hop_size bytes ≤ length bytes
+unfolding hop_size
 hops-within [] = omega arith
 hops-within (first ∷ []) = omega arith
 hops-within (first ∷ second ∷ rest) = go (eqb first 34) (hops-within rest)
   where
-    go : (hop : Bool) → hopSize rest ≤ length rest → cond hop (2 + hopSize rest) 0 ≤ suc (suc (length rest))
+    go : (hop : Bool) → hop_size rest ≤ length rest → cond hop (2 + hop_size rest) 0 ≤ suc (suc (length rest))
     go true within = omega arith
     go false within = omega arith
 
 -- ---- from a place on
 
 -- fewer than two bytes are no hop
-pub no-pair : (bytes : List ℕ) (at : ℕ) → length bytes - at ≤ 1 → hopSize (drop at bytes) ≡ 0
-unfolding hopSize
+pub no-pair : (bytes : List ℕ) (at : ℕ) → length bytes - at ≤ 1 → hop_size (drop at bytes) ≡ 0
+unfolding hop_size
 no-pair bytes at few = go (drop at bytes) (simp length-drop few)
   where
-    go : (rest : List ℕ) → length rest ≤ 1 → hopSize rest ≡ 0
+    go : (rest : List ℕ) → length rest ≤ 1 → hop_size rest ≡ 0
     go [] few = refl
     go (one ∷ []) few = refl
     go (one ∷ two ∷ rest) few = absurd (omega arith)
@@ -43,67 +43,67 @@ two-there bytes at there =
     let on : at + 2 ≡ suc (suc at) = omega arith in
     drop-cons bytes at 0 (omega arith) ∙ rw (drop-cons bytes (suc at) 0 (omega arith), on)
 
-pub no-hop : (bytes : List ℕ) (at : ℕ) → at + 1 < length bytes → (get_or bytes at 0 ≡ 34 → ⊥) → hopSize (drop at bytes) ≡ 0
-unfolding hopSize
+pub no-hop : (bytes : List ℕ) (at : ℕ) → at + 1 < length bytes → (get_or bytes at 0 ≡ 34 → ⊥) → hop_size (drop at bytes) ≡ 0
+unfolding hop_size
 no-hop bytes at there other = rw (two-there bytes at there, ne_eqb (get_or bytes at 0) 34 other)
 
-pub a-hop : (bytes : List ℕ) (at : ℕ) → at + 1 < length bytes → get_or bytes at 0 ≡ 34 → hopSize (drop at bytes) ≡ 2 + hopSize (drop (at + 2) bytes)
-unfolding hopSize
+pub a-hop : (bytes : List ℕ) (at : ℕ) → at + 1 < length bytes → get_or bytes at 0 ≡ 34 → hop_size (drop at bytes) ≡ 2 + hop_size (drop (at + 2) bytes)
+unfolding hop_size
 a-hop bytes at there hop = rw (two-there bytes at there, eq-eqb (get_or bytes at 0) 34 hop)
 
 -- bytes that begin with something else
-pub other-front : (first : ℕ) (rest : List ℕ) → eqb first 34 ≡ false → hopSize (first ∷ rest) ≡ 0
-unfolding hopSize
+pub other-front : (first : ℕ) (rest : List ℕ) → eqb first 34 ≡ false → hop_size (first ∷ rest) ≡ 0
+unfolding hop_size
 other-front first [] other = refl
 other-front first (second ∷ rest) other = rw other
 
 -- ---- a hop part of the form, and what follows it
 
 abbrev pub OfForm : List ℕ → Type 0
-OfForm part = hopSize part ≡ length part
+OfForm part = hop_size part ≡ length part
 
-pub hops-in-front : (part rest : List ℕ) → OfForm part → hopSize rest ≡ 0 → hopSize (part ++ rest) ≡ length part
-unfolding hopSize
+pub hops-in-front : (part rest : List ℕ) → OfForm part → hop_size rest ≡ 0 → hop_size (part ++ rest) ≡ length part
+unfolding hop_size
 hops-in-front [] rest form none = none
 hops-in-front (first ∷ []) rest form none = absurd (omega arith)
 hops-in-front (first ∷ second ∷ part) rest form none = go (eqb first 34) form (λ f. hops-in-front part rest f none)
   where
-    go : (hop : Bool) → cond hop (2 + hopSize part) 0 ≡ suc (suc (length part)) → (OfForm part → hopSize (part ++ rest) ≡ length part)
-        → cond hop (2 + hopSize (part ++ rest)) 0 ≡ suc (suc (length part))
-    go true form on = let below : hopSize part ≡ length part = omega arith in rw (on below) (omega arith)
+    go : (hop : Bool) → cond hop (2 + hop_size part) 0 ≡ suc (suc (length part)) → (OfForm part → hop_size (part ++ rest) ≡ length part)
+        → cond hop (2 + hop_size (part ++ rest)) 0 ≡ suc (suc (length part))
+    go true form on = let below : hop_size part ≡ length part = omega arith in rw (on below) (omega arith)
     go false form on = absurd (omega arith)
 
 -- the hops at the front of bytes are of the form
-pub front-form : (bytes : List ℕ) → OfForm (take (hopSize bytes) bytes)
-unfolding hopSize
+pub front-form : (bytes : List ℕ) → OfForm (take (hop_size bytes) bytes)
+unfolding hop_size
 front-form [] = refl
 front-form (first ∷ []) = refl
 front-form (first ∷ second ∷ rest) = go (eqb first 34) refl (front-form rest)
   where
-    go : (hop : Bool) → eqb first 34 ≡ hop → OfForm (take (hopSize rest) rest)
-        → OfForm (take (cond hop (2 + hopSize rest) 0) (first ∷ second ∷ rest))
-    go true e form = let two : 2 + hopSize rest ≡ suc (suc (hopSize rest)) = omega arith in rw (two, e, form) (omega arith)
+    go : (hop : Bool) → eqb first 34 ≡ hop → OfForm (take (hop_size rest) rest)
+        → OfForm (take (cond hop (2 + hop_size rest) 0) (first ∷ second ∷ rest))
+    go true e form = let two : 2 + hop_size rest ≡ suc (suc (hop_size rest)) = omega arith in rw (two, e, form) (omega arith)
     go false e form = refl
 
 -- what `encode` writes for hops is of the form, and nothing else is
-pub bytes-form : (ids : List ℕ) → OfForm (hopBytes ids)
-unfolding hopSize hopBytes
+pub bytes-form : (ids : List ℕ) → OfForm (hop_bytes ids)
+unfolding hop_size hop_bytes
 bytes-form [] = refl
 bytes-form (id ∷ ids) = rw (bytes-form ids) (omega arith)
 
-pub form-bytes : (part : List ℕ) → OfForm part → (ids : List ℕ) × (part ≡ hopBytes ids)
-unfolding hopSize hopBytes
+pub form-bytes : (part : List ℕ) → OfForm part → (ids : List ℕ) × (part ≡ hop_bytes ids)
+unfolding hop_size hop_bytes
 form-bytes [] form = ([], refl)
 form-bytes (first ∷ []) form = absurd (omega arith)
 form-bytes (first ∷ second ∷ part) form = go (eqb first 34) refl form (form-bytes part)
   where
-    go : (hop : Bool) → eqb first 34 ≡ hop → cond hop (2 + hopSize part) 0 ≡ suc (suc (length part))
-        → (OfForm part → (ids : List ℕ) × (part ≡ hopBytes ids)) → (ids : List ℕ) × (first ∷ second ∷ part ≡ hopBytes ids)
+    go : (hop : Bool) → eqb first 34 ≡ hop → cond hop (2 + hop_size part) 0 ≡ suc (suc (length part))
+        → (OfForm part → (ids : List ℕ) × (part ≡ hop_bytes ids)) → (ids : List ℕ) × (first ∷ second ∷ part ≡ hop_bytes ids)
     go true e form on =
-        let below : hopSize part ≡ length part = omega arith in
+        let below : hop_size part ≡ length part = omega arith in
         let rest = on below in
         (second ∷ rest.0, rw (eqb-true first 34 e, ← rest.1))
     go false e form on = absurd (omega arith)
 
-pub hops-form : (part : List ℕ) → (isHops part ≡ true) ↔ ((ids : List ℕ) × (part ≡ hopBytes ids))
+pub hops-form : (part : List ℕ) → (is_hops part ≡ true) ↔ ((ids : List ℕ) × (part ≡ hop_bytes ids))
 hops-form part = (λ e. form-bytes part (eqb-true _ _ e), λ is. rw is.1 (eq-eqb _ _ (bytes-form is.0)))

@@ -5,26 +5,26 @@ use Prim.Native.Nat.{ℕ, ◌+◌, ◌≤◌}
 use native.Mathlib.Omega.{arith}
 use lib.ListN.{length, take, drop}
 use borrow.Author.Tests.{eqb-true}
-use Rattle.refusals.specs.Refusals.{ok, invalidFrame}
+use Rattle.refusals.specs.Refusals.{ok, invalid_frame}
 use Rattle.refusals.proofs.Answers.{given-unless}
 use Rattle.packer.specs.Nearness.{Bytes}
-use Rattle.frame.specs.Frame.{short, frame_of, frameSize, declared, payloadIn}
-use Rattle.frame.specs.Wrapping.{wrapAfter}
+use Rattle.frame.specs.Frame.{short, frame_of, frame_size, declared, payload_in}
+use Rattle.frame.specs.Wrapping.{wrap_after}
 use Rattle.frame.proofs.Laws.{frame-laws}
 use Rattle.frame.proofs.Places.{declared-is}
 use Rattle.frame.proofs.Wrapped.{answer-given, answer-fits}
-use Rattle.raw_command.specs.Commands.{Plain, plain_of, bytesIn, bytes_of}
+use Rattle.raw_command.specs.Commands.{Plain, plain_of, bytes_in, bytes_of}
 use Rattle.raw_command.specs.declared.RawCommand.{RawCommand}
 use Rattle.raw_command.proofs.Unique.{never-forward}
-use Rattle.command.specs.Commands.{rawOf}
+use Rattle.command.specs.Commands.{raw_of}
 use Rattle.command.specs.declared.Command.{Command}
-use Rattle.encode.specs.Payload.{hopBytes, payloadOf}
+use Rattle.encode.specs.Payload.{hop_bytes, payload_of}
 use Rattle.encode.specs.Encode.{EncodeIs, encoded}
 use Rattle.encode.specs.declared.Encoded.{Encoded}
 use Rattle.encode.specs.declared.Encoded.TheVariants as e
 use Rattle.encode.proofs.Exact as encode
-use Rattle.command_reader.specs.Reader.{hopSize, CommandFrame, read_of, hopPartOf, ReadIs}
-use Rattle.command_reader.specs.Writer.{isHops, payloadBack, writeAnswer, writtenBack, WriteIs}
+use Rattle.command_reader.specs.Reader.{hop_size, CommandFrame, read_of, hop_part_of, ReadIs}
+use Rattle.command_reader.specs.Writer.{is_hops, payload_back, write_answer, written_again, WriteIs}
 use Rattle.command_reader.specs.Laws.{ReadAs, CommandFits, ReaderLaws}
 use Rattle.command_reader.specs.declared.CommandRead.{CommandRead}
 use Rattle.command_reader.specs.declared.WrittenBack.{WrittenBack}
@@ -36,33 +36,33 @@ use Rattle.command_reader.proofs.Writing.{by-wrap}
 
 -- ---- what was written is read
 
-reads-encoded : (command : Command) (hops buffer after : List ℕ) (count : ℕ) → CommandFits (rawOf command)
-    → EncodeIs command hops buffer (e.Written count) after → ReadAs after count (hopBytes hops) (plain_of (rawOf command))
-unfolding payloadOf
+reads-encoded : (command : Command) (hops buffer after : List ℕ) (count : ℕ) → CommandFits (raw_of command)
+    → EncodeIs command hops buffer (e.Written count) after → ReadAs after count (hop_bytes hops) (plain_of (raw_of command))
+unfolding payload_of
 reads-encoded command hops buffer after count fits w =
     let given = answer-given _ (length buffer) count (sym w.answer) in
     rw ((encode.encode-writes command hops buffer after count w).begins, given.1)
-    (frame-read (hopBytes hops) (plain_of (rawOf command)) _ (bytes-form hops) (never-forward (rawOf command)) fits given.0)
+    (frame-read (hop_bytes hops) (plain_of (raw_of command)) _ (bytes-form hops) (never-forward (raw_of command)) fits given.0)
 
 -- a success: the hop part is of the form, and the frame stands in front
 record WritesFrame (hops : List ℕ) (command : RawCommand) (buffer after : List ℕ) (count : ℕ) : Type 0 where
-  form : hopSize hops ≡ length hops
-  small : length (payloadBack hops command) ≤ 255
-  counted : count ≡ frameSize short (length (payloadBack hops command))
-  begins : after ≡ frame_of short (payloadBack hops command) ++ drop count buffer
+  form : hop_size hops ≡ length hops
+  small : length (payload_back hops command) ≤ 255
+  counted : count ≡ frame_size short (length (payload_back hops command))
+  begins : after ≡ frame_of short (payload_back hops command) ++ drop count buffer
 
 writes-frame : (hops : List ℕ) (command : RawCommand) (buffer after : List ℕ) (count : ℕ) → WriteIs hops command buffer (Written count) after
     → WritesFrame hops command buffer after count
-unfolding writeAnswer
+unfolding write_answer
 writes-frame hops command buffer after count w =
-    let formed = given-unless (isHops hops) invalidFrame _ count (sym w.answer) in
+    let formed = given-unless (is_hops hops) invalid_frame _ count (sym w.answer) in
     let given = answer-given _ (length buffer) count formed.then in
-    let size : length (frame_of short (payloadBack hops command)) ≡ count = (frame-laws short).size (payloadBack hops command) ∙ sym given.1 in
+    let size : length (frame_of short (payload_back hops command)) ≡ count = (frame-laws short).size (payload_back hops command) ∙ sym given.1 in
     record { form = eqb-true _ _ formed.holds; small = given.0; counted = given.1; begins = w.holds ∙ rw (formed.holds, formed.then, size) }
 
 reads-written : (hops : List ℕ) (command : RawCommand) (buffer after : List ℕ) (count : ℕ) → CommandFits command
     → WriteIs hops command buffer (Written count) after → ReadAs after count hops (plain_of command)
-unfolding payloadBack
+unfolding payload_back
 reads-written hops command buffer after count fits w =
     let written = writes-frame hops command buffer after count w in
     rw (written.begins, written.counted)
@@ -71,32 +71,32 @@ reads-written hops command buffer after count fits w =
 -- ---- what was read is written
 
 writes-read : (s : List ℕ) → Bytes s → (r : CommandRead) (frame : CommandFrame) → ReadIs s r → read_of s ≡ ok frame
-    → (buffer after : List ℕ) (w : WrittenBack) → frame.count ≤ length buffer → WriteIs (hopPartOf s) r.command buffer w after
-    → (writtenBack w ≡ ok frame.count) × (after ≡ take frame.count s ++ drop frame.count buffer)
-unfolding payloadBack
+    → (buffer after : List ℕ) (w : WrittenBack) → frame.count ≤ length buffer → WriteIs (hop_part_of s) r.command buffer w after
+    → (written_again w ≡ ok frame.count) × (after ≡ take frame.count s ++ drop frame.count buffer)
+unfolding payload_back
 writes-read s b r frame is read buffer after w room back =
     let from = read-given s frame read in
     let at = opened-at s frame.count from.opened in
     let same : plain_of r.command ≡ frame.plain = is.command ∙ rw read in
-    let payload : hopPartOf s ++ bytes_of r.command ≡ payloadIn short s = ap (λ (plain : Plain). hopPartOf s ++ bytesIn plain) same ∙ sym (payload-is s frame read b) in
-    let size : length (hopPartOf s ++ bytes_of r.command) ≡ declared short s = ap length payload ∙ at.size in
-    let form : hopSize (hopPartOf s) ≡ length (hopPartOf s) = rw (part-of-payload s frame read, from.hops) (front-form (payloadIn short s)) in
-    let answer : writeAnswer (hopPartOf s) r.command (length buffer) ≡ ok frame.count =
-    by-wrap (hopPartOf s) r.command buffer form
+    let payload : hop_part_of s ++ bytes_of r.command ≡ payload_in short s = ap (λ (plain : Plain). hop_part_of s ++ bytes_in plain) same ∙ sym (payload-is s frame read b) in
+    let size : length (hop_part_of s ++ bytes_of r.command) ≡ declared short s = ap length payload ∙ at.size in
+    let form : hop_size (hop_part_of s) ≡ length (hop_part_of s) = rw (part-of-payload s frame read, from.hops) (front-form (payload_in short s)) in
+    let answer : write_answer (hop_part_of s) r.command (length buffer) ≡ ok frame.count =
+    by-wrap (hop_part_of s) r.command buffer form
     ∙ answer-fits _ (length buffer) (omega (arith, size, declared-is s, b 1)) (omega (arith, size, at.counted))
     ∙ ap ok (omega (arith, size, at.counted)) in
-    let frame-there : frame_of short (hopPartOf s ++ bytes_of r.command) ≡ take frame.count s = rw same (sym (frame_is s frame read b)) in
-    let long : length (frame_of short (hopPartOf s ++ bytes_of r.command)) ≡ frame.count = (frame-laws short).size _ ∙ omega (arith, size, at.counted) in
+    let frame-there : frame_of short (hop_part_of s ++ bytes_of r.command) ≡ take frame.count s = rw same (sym (frame_is s frame read b)) in
+    let long : length (frame_of short (hop_part_of s ++ bytes_of r.command)) ≡ frame.count = (frame-laws short).size _ ∙ omega (arith, size, at.counted) in
     (back.answer ∙ answer, back.holds ∙ rw (answer, long, frame-there))
 
 -- ---- `encode` is the writer
 
 encode-writes : (command : Command) (hops buffer after other : List ℕ) (r : Encoded) (w : WrittenBack)
-    → EncodeIs command hops buffer r after → WriteIs (hopBytes hops) (rawOf command) buffer w other
-    → (encoded r ≡ writtenBack w) × (after ≡ other)
-unfolding payloadOf payloadBack wrapAfter
+    → EncodeIs command hops buffer r after → WriteIs (hop_bytes hops) (raw_of command) buffer w other
+    → (encoded r ≡ written_again w) × (after ≡ other)
+unfolding payload_of payload_back wrap_after
 encode-writes command hops buffer after other r w v back =
-    let same = by-wrap (hopBytes hops) (rawOf command) buffer (bytes-form hops) in
+    let same = by-wrap (hop_bytes hops) (raw_of command) buffer (bytes-form hops) in
     (v.answer ∙ sym (back.answer ∙ same), v.holds ∙ sym (back.holds ∙ rw same))
 
 -- ---- one reading, one frame

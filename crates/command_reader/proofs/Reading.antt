@@ -9,30 +9,30 @@ use Rattle.refusals.specs.Refusals.{Refusal, Answer, ok, refused}
 use Rattle.refusals.specs.declared.Consumed.TheVariants.{To}
 use Rattle.refusals.proofs.Answers.{given-same, given-then}
 use Rattle.packer.proofs.Places.{lent-whole}
-use Rattle.frame.specs.Frame.{short, declared, payloadIn}
-use Rattle.frame.specs.Opening.{openOf}
+use Rattle.frame.specs.Frame.{short, declared, payload_in}
+use Rattle.frame.specs.Opening.{open_of}
 use Rattle.frame.proofs.Opened.{open-laws}
 use Rattle.raw_command.specs.Commands.{plain_of}
-use Rattle.raw_command.specs.Reading.{plainIn}
+use Rattle.raw_command.specs.Reading.{plain_in}
 use Rattle.raw_command.specs.declared.RawCommand.{RawCommand}
-use Rattle.command_reader.specs.Reader.{hopSize, CommandFrame, contentOf, read_of, count_of, commandOr, SaysRead, ReadIs, partPlace, hopPartOf}
+use Rattle.command_reader.specs.Reader.{hop_size, CommandFrame, content_of, read_of, count_of, command_or, SaysRead, ReadIs, part_place, hop_part_of}
 use Rattle.command_reader.specs.declared.CommandRead.{CommandRead}
 use Rattle.command_reader.proofs.Hops.{hops-within}
 
 -- ---- the payload
 
-module _ (payload : List ℕ) (count hops : ℕ) (size : hops ≡ hopSize payload) where
-  behind : plainIn (take (length payload - hops) (drop hops payload)) ≡ plainIn (drop (hopSize payload) payload)
+module _ (payload : List ℕ) (count hops : ℕ) (size : hops ≡ hop_size payload) where
+  behind : plain_in (take (length payload - hops) (drop hops payload)) ≡ plain_in (drop (hop_size payload) payload)
   behind = rw (← size, lent-whole hops payload)
 
-  pub content-read : (command : RawCommand) → ok (plain_of command) ≡ plainIn (take (length payload - hops) (drop hops payload))
-      → SaysRead (contentOf payload count) (record { answer = To count; command = command; hops = hops })
-  unfolding contentOf
+  pub content-read : (command : RawCommand) → ok (plain_of command) ≡ plain_in (take (length payload - hops) (drop hops payload))
+      → SaysRead (content_of payload count) (record { answer = To count; command = command; hops = hops })
+  unfolding content_of
   content-read command e = rw (← behind, ← e) (record { answer = refl; hops = size; command = refl })
 
-  pub content-refused : (why : Refusal) {r : CommandRead} → refused why ≡ plainIn (take (length payload - hops) (drop hops payload)) → SaysRead (refused why) r
-      → SaysRead (contentOf payload count) r
-  unfolding contentOf
+  pub content-refused : (why : Refusal) {r : CommandRead} → refused why ≡ plain_in (take (length payload - hops) (drop hops payload)) → SaysRead (refused why) r
+      → SaysRead (content_of payload count) r
+  unfolding content_of
   content-refused why e says = rw (← behind, ← e) says
 
 -- ---- the frame
@@ -41,11 +41,11 @@ module _ (s : List ℕ) where
   pub record OpenedAt (count : ℕ) : Type 0 where
     pub counted : count ≡ declared short s + 5
     pub within : count ≤ length s
-    pub payload : take (count - 3 - 2) (drop 2 s) ≡ payloadIn short s
-    pub size : length (payloadIn short s) ≡ declared short s
+    pub payload : take (count - 3 - 2) (drop 2 s) ≡ payload_in short s
+    pub size : length (payload_in short s) ≡ declared short s
 
-  pub opened-at : (count : ℕ) → openOf s ≡ ok count → OpenedAt count
-  unfolding payloadIn
+  pub opened-at : (count : ℕ) → open_of s ≡ ok count → OpenedAt count
+  unfolding payload_in
   opened-at count e =
       let framed = (open-laws.opened s count).0 e in
       let counted : count ≡ declared short s + 5 = omega (arith, framed.1) in
@@ -58,26 +58,26 @@ module _ (s : List ℕ) where
         size = length-take-le (declared short s) (drop 2 s) (simp length-drop (omega arith));
       }
 
-  pub read_opened : (count : ℕ) {r : CommandRead} → openOf s ≡ ok count → SaysRead (contentOf (take (count - 3 - 2) (drop 2 s)) count) r → ReadIs s r
+  pub read_opened : (count : ℕ) {r : CommandRead} → open_of s ≡ ok count → SaysRead (content_of (take (count - 3 - 2) (drop 2 s)) count) r → ReadIs s r
   unfolding read_of
   read_opened count e says = rw (e, ← (opened-at count e).payload) says
 
-  pub read-refused : (why : Refusal) {r : CommandRead} → openOf s ≡ refused why → SaysRead (refused why) r → ReadIs s r
+  pub read-refused : (why : Refusal) {r : CommandRead} → open_of s ≡ refused why → SaysRead (refused why) r → ReadIs s r
   unfolding read_of
   read-refused why e says = rw e says
 
   -- ---- what a reading tells
 
   pub record ReadFrom (frame : CommandFrame) : Type 0 where
-    pub opened : openOf s ≡ ok frame.count
-    pub hops : frame.hops ≡ hopSize (payloadIn short s)
-    pub plain : plainIn (drop (hopSize (payloadIn short s)) (payloadIn short s)) ≡ ok frame.plain
+    pub opened : open_of s ≡ ok frame.count
+    pub hops : frame.hops ≡ hop_size (payload_in short s)
+    pub plain : plain_in (drop (hop_size (payload_in short s)) (payload_in short s)) ≡ ok frame.plain
 
   pub read-given : (frame : CommandFrame) → read_of s ≡ ok frame → ReadFrom frame
-  unfolding read_of contentOf
+  unfolding read_of content_of
   read-given frame e =
-      let first = given-then (openOf s) _ frame e in
-      let second = given-then (plainIn (drop (hopSize (payloadIn short s)) (payloadIn short s))) _ frame first.second in
+      let first = given-then (open_of s) _ frame e in
+      let second = given-then (plain_in (drop (hop_size (payload_in short s)) (payload_in short s))) _ frame first.second in
       let is = given-same second.second in
       record {
         opened = first.first ∙ ap (λ (f : CommandFrame). ok f.count) is;
@@ -86,26 +86,26 @@ module _ (s : List ℕ) where
       }
 
   pub given-read : (frame : CommandFrame) → ReadFrom frame → read_of s ≡ ok frame
-  unfolding read_of contentOf
+  unfolding read_of content_of
   given-read frame from = rw (from.opened, from.plain, ← from.hops)
 
   -- the hop part lies in the slice
-  pub part-inside : partPlace (read_of s) + (commandOr (read_of s)).hops ≤ length s
+  pub part-inside : part_place (read_of s) + (command_or (read_of s)).hops ≤ length s
   part-inside = go (read_of s) refl
     where
-      go : (a : Answer CommandFrame) → read_of s ≡ a → partPlace a + (commandOr a).hops ≤ length s
+      go : (a : Answer CommandFrame) → read_of s ≡ a → part_place a + (command_or a).hops ≤ length s
       go (ok frame) e =
           let from = read-given frame e in
           let at = opened-at frame.count from.opened in
-          omega (arith, from.hops, hops-within (payloadIn short s), at.size, at.counted, at.within)
+          omega (arith, from.hops, hops-within (payload_in short s), at.size, at.counted, at.within)
       go (refused why) e = omega arith
 
   -- and is the part that is lent
-  pub part-taken : (start hops : ℕ) → start ≡ partPlace (read_of s) → hops ≡ (commandOr (read_of s)).hops → take (start + hops - start) (drop start s) ≡ hopPartOf s
-  unfolding hopPartOf
+  pub part-taken : (start hops : ℕ) → start ≡ part_place (read_of s) → hops ≡ (command_or (read_of s)).hops → take (start + hops - start) (drop start s) ≡ hop_part_of s
+  unfolding hop_part_of
   part-taken start hops at size = let all : start + hops - start ≡ hops = omega arith in rw (all, at, size)
 
 -- the place of the part, by the count or the refusal
-pub place_of : (a : Answer CommandFrame) → partPlace (count_of a) ≡ partPlace a
+pub place_of : (a : Answer CommandFrame) → part_place (count_of a) ≡ part_place a
 place_of (ok frame) = refl
 place_of (refused why) = refl

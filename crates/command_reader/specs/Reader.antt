@@ -3,20 +3,20 @@
 use Rattle.std.specs.Prelude.{cond, ◌≡◌, List, [], ◌∷◌, ℕ, ◌+◌, eqb, take, drop}
 use Rattle.refusals.specs.Refusals.{Answer, ok, refused, consumed}
 use Rattle.refusals.specs.Answers.{and_then}
-use Rattle.format.specs.Format.{id_of, payloadAt}
+use Rattle.format.specs.Format.{id_of, payload_at}
 use Rattle.format.specs.declared.CommandId.TheVariants.{ForwardCan}
-use Rattle.frame.specs.Frame.{short, payloadIn}
-use Rattle.frame.specs.Opening.{openOf}
+use Rattle.frame.specs.Frame.{short, payload_in}
+use Rattle.frame.specs.Opening.{open_of}
 use Rattle.raw_command.specs.Commands.{Plain, plain_of}
-use Rattle.raw_command.specs.Reading.{plainIn}
+use Rattle.raw_command.specs.Reading.{plain_in}
 use Rattle.raw_command.specs.declared.RawCommand.TheVariants.{FwVersion}
 use Rattle.command_reader.specs.declared.CommandRead.{CommandRead}
 
 -- "the hops as the front part of the payload, 34 and id by turns": how many bytes of these stand at the front
-unfoldable pub hopSize : List ℕ → ℕ
-hopSize [] = 0
-hopSize (first ∷ []) = 0
-hopSize (first ∷ second ∷ rest) = cond (eqb first (id_of ForwardCan)) (2 + hopSize rest) 0
+unfoldable pub hop_size : List ℕ → ℕ
+hop_size [] = 0
+hop_size (first ∷ []) = 0
+hop_size (first ∷ second ∷ rest) = cond (eqb first (id_of ForwardCan)) (2 + hop_size rest) 0
 
 -- what is read: the frame's count, how many bytes its hop part has, and the plain command
 pub record CommandFrame : Type 0 where
@@ -25,12 +25,12 @@ pub record CommandFrame : Type 0 where
   pub plain : Plain
 
 -- the payload from the left: its hops, and then nothing but a plain command
-unfoldable pub contentOf : List ℕ → ℕ → Answer CommandFrame
-contentOf payload count = and_then (plainIn (drop (hopSize payload) payload)) (λ plain. ok (record { count = count; hops = hopSize payload; plain = plain }))
+unfoldable pub content_of : List ℕ → ℕ → Answer CommandFrame
+content_of payload count = and_then (plain_in (drop (hop_size payload) payload)) (λ plain. ok (record { count = count; hops = hop_size payload; plain = plain }))
 
 -- the frame, and then its payload
 unfoldable pub read_of : List ℕ → Answer CommandFrame
-read_of s = and_then (openOf s) (λ count. contentOf (payloadIn short s) count)
+read_of s = and_then (open_of s) (λ count. content_of (payload_in short s) count)
 
 -- the count, or the refusal
 abbrev pub count_of : Answer CommandFrame → Answer ℕ
@@ -38,23 +38,23 @@ count_of (ok command) = ok command.count
 count_of (refused why) = refused why
 
 -- the command, or the filler beside a refusal. Document 01: "A count beside a refusal is 0"
-abbrev pub commandOr : Answer CommandFrame → CommandFrame
-commandOr (ok command) = command
-commandOr (refused why) = record { count = 0; hops = 0; plain = plain_of FwVersion }
+abbrev pub command_or : Answer CommandFrame → CommandFrame
+command_or (ok command) = command
+command_or (refused why) = record { count = 0; hops = 0; plain = plain_of FwVersion }
 
 -- `r` says what was read
 pub record SaysRead (a : Answer CommandFrame) (r : CommandRead) : Type 0 where
   pub answer : consumed r.answer ≡ count_of a
-  pub hops : r.hops ≡ (commandOr a).hops
-  pub command : plain_of r.command ≡ (commandOr a).plain
+  pub hops : r.hops ≡ (command_or a).hops
+  pub command : plain_of r.command ≡ (command_or a).plain
 
 abbrev pub ReadIs : List ℕ → CommandRead → Type 0
 ReadIs s r = SaysRead (read_of s) r
 
 -- the hop part, by its place: at the payload. Document 01: "Where an answer is a part of lent bytes and there is none to give, the part is the empty one at the front."
-abbrev pub partPlace : {A : Type 0} → Answer A → ℕ
-partPlace (ok read) = payloadAt
-partPlace (refused why) = 0
+abbrev pub part_place : {A : Type 0} → Answer A → ℕ
+part_place (ok read) = payload_at
+part_place (refused why) = 0
 
-unfoldable pub hopPartOf : List ℕ → List ℕ
-hopPartOf s = take (commandOr (read_of s)).hops (drop (partPlace (read_of s)) s)
+unfoldable pub hop_part_of : List ℕ → List ℕ
+hop_part_of s = take (command_or (read_of s)).hops (drop (part_place (read_of s)) s)

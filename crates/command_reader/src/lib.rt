@@ -2,12 +2,12 @@
 // writes commands. A hop is the id of ForwardCan, 34, and the id of a controller; the hops are the front part of the
 // payload, and the plain command is the rest.
 ghost use Rattle.std.specs.Prelude.{◌≡◌, ◌++◌, ◌+◌, ◌≤◌, length};
-ghost use Rattle.refusals.specs.Refusals.{refused, consumed, decodeRefusal};
-ghost use Rattle.format.specs.Format.{payloadAt};
+ghost use Rattle.refusals.specs.Refusals.{refused, consumed, decode_refusal};
+ghost use Rattle.format.specs.Format.{payload_at};
 ghost use Rattle.packer.specs.Packing.{PackIs, packed};
-ghost use Rattle.raw_command.specs.Commands.{partsBytes};
-ghost use Rattle.command_reader.specs.Reader.{hopSize, contentOf, read_of, SaysRead, ReadIs, partPlace, hopPartOf};
-ghost use Rattle.command_reader.specs.Writer.{writtenBack, WriteIs};
+ghost use Rattle.raw_command.specs.Commands.{parts_bytes};
+ghost use Rattle.command_reader.specs.Reader.{hop_size, content_of, read_of, SaysRead, ReadIs, part_place, hop_part_of};
+ghost use Rattle.command_reader.specs.Writer.{written_again, WriteIs};
 
 use format::{CommandId, FRAME_EXTRA, PAYLOAD_AT, PAYLOAD_MAX};
 use packer::Packed;
@@ -37,7 +37,7 @@ pub enum WrittenBack {
 
 // How many bytes of hops stand at the front: 34 and an id by turns.
 fn hops_len(bytes: &[u8]) -> usize
-    ensures { (result ≡ hopSize bytes.now) × (result ≤ length bytes.now) }
+    ensures { (result ≡ hop_size bytes.now) × (result ≤ length bytes.now) }
 {
     let mut at: usize = 0;
     while 1 < bytes.len() - at {
@@ -51,7 +51,7 @@ fn hops_len(bytes: &[u8]) -> usize
 
 // A refusal, with the fillers beside it.
 fn not_read(error: DecodeError) -> CommandRead
-    ensures { SaysRead (refused (decodeRefusal error)) result }
+    ensures { SaysRead (refused (decode_refusal error)) result }
 {
     CommandRead {
         answer: Consumed::Refused(error),
@@ -62,7 +62,7 @@ fn not_read(error: DecodeError) -> CommandRead
 
 // The payload from the left: the hops, then the command. `count` is what the frame takes.
 fn read_payload(payload: &[u8], count: usize) -> CommandRead
-    ensures { SaysRead (contentOf payload.now count) result }
+    ensures { SaysRead (content_of payload.now count) result }
 {
     let hops = hops_len(payload);
     match raw_command::unpack_command(&payload[hops..]) {
@@ -88,7 +88,7 @@ pub fn read_command(buf: &[u8]) -> CommandRead
 
 // Where the hop part begins: at the payload, or at the front if there is none to give.
 fn part_place(answer: Consumed) -> usize
-    ensures { result ≡ partPlace (consumed answer) }
+    ensures { result ≡ part_place (consumed answer) }
 {
     match answer {
         Consumed::To(_) => PAYLOAD_AT,
@@ -100,7 +100,7 @@ fn part_place(answer: Consumed) -> usize
 // front if the frame is refused. Reads the frame again; a caller who has its `CommandRead` can take the
 // `hops` bytes from byte 2 on instead.
 pub fn hop_part(buf: &[u8]) -> &[u8]
-    ensures { (result.now ≡ hopPartOf buf.now) × (result.ref_ptr.0 ≡ buf.entry.ref_ptr.0) × (result.ref_ptr.1 ≡ buf.entry.ref_ptr.1 + partPlace (read_of buf.now)) }
+    ensures { (result.now ≡ hop_part_of buf.now) × (result.ref_ptr.0 ≡ buf.entry.ref_ptr.0) × (result.ref_ptr.1 ≡ buf.entry.ref_ptr.1 + part_place (read_of buf.now)) }
 {
     let read = read_command(buf);
     let answer = read.answer;
@@ -111,8 +111,8 @@ pub fn hop_part(buf: &[u8]) -> &[u8]
 
 // The payload at its place in a buffer that has room for it.
 fn pack_payload(hops: &[u8], parts: Parts, buf: &mut [u8]) -> Packed
-    requires { payloadAt + length hops.now + 1 + parts.width ≤ length buf.old }
-    ensures { PackIs (hops.now ++ partsBytes parts) buf.old payloadAt result buf.new }
+    requires { payload_at + length hops.now + 1 + parts.width ≤ length buf.old }
+    ensures { PackIs (hops.now ++ parts_bytes parts) buf.old payload_at result buf.new }
 {
     packer::pack_bytes(buf, PAYLOAD_AT, hops);
     raw_command::pack_parts(parts, buf, PAYLOAD_AT + hops.len())
@@ -120,7 +120,7 @@ fn pack_payload(hops: &[u8], parts: Parts, buf: &mut [u8]) -> Packed
 
 // What `frame::wrap` answered, as `write_command` answers it.
 fn wrapped(answer: Packed) -> WrittenBack
-    ensures { writtenBack result ≡ packed answer }
+    ensures { written_again result ≡ packed answer }
 {
     match answer {
         Packed::Next(count) => WrittenBack::Written(count),

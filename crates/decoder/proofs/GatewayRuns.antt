@@ -8,8 +8,8 @@ use borrow.Author.Tests.{ltb-true, ltb-false, eqb-true, eqb-false}
 use lib.Dec.{ltb, eqb}
 use lib.ListN.{length, take}
 use Rattle.refusals.specs.declared.FeedError.TheVariants.{NotDrained}
-use Rattle.refusals.specs.Answers.{placeOr}
-use Rattle.buffer.specs.Buffer.{Buffer, gatewayAnswer, gatewayCount, gatewayBuffer}
+use Rattle.refusals.specs.Answers.{place_or}
+use Rattle.buffer.specs.Buffer.{Buffer, gateway_answer, gateway_count, gateway_buffer}
 use Rattle.buffer.specs.Runs.{AnyOrder, begins, feeds, gives_one, gives_none, cuts-anew, Totals, at_first, by-feed, by-reply, by-nothing}
 use Rattle.buffer.proofs.Gateway.{gateway-empty, gateway-takes, gateway-refuses, gateway-fits, gateway-most, gateway-keeps, gateway-cleared, gateway-mark, never-clears}
 use Rattle.buffer.proofs.Nexts.{next-mark, next-cleared}
@@ -19,46 +19,46 @@ use Rattle.reply.specs.declared.CommandReply.{CommandReply}
 use Rattle.decoder.specs.declared.Decoder.{Decoder}
 use Rattle.decoder.specs.declared.Taken.{Taken}
 use Rattle.decoder.specs.declared.Taken.TheVariants.{Bytes, Refused}
-use Rattle.decoder.specs.Judge.{decodeJudge}
-use Rattle.decoder.specs.State.{bufferOf, Sound, BufferIs, takenAnswer, GatewayFeedIs}
-use Rattle.decoder.specs.Runs.{GatewayTakes, gatewayCalls, GatewayReached}
+use Rattle.decoder.specs.Judge.{decode_judge}
+use Rattle.decoder.specs.State.{buffer_of, Sound, BufferIs, taken_answer, GatewayFeedIs}
+use Rattle.decoder.specs.Runs.{GatewayTakes, gateway_calls, GatewayReached}
 use Rattle.decoder.proofs.States.{marked-buffer}
 use Rattle.decoder.proofs.Gateway.{gateway-stays, gateway-copied}
 use Rattle.decoder.proofs.Runs.{unread, fits, holder, next-searches, next-answers, a-fresh-one}
 
 abbrev pub marked : Decoder → Bool
-marked d = (bufferOf d).drained
+marked d = (buffer_of d).drained
 
 -- ready for a piece is a drained decoder
 abbrev pub Drained : Decoder → Type 0
 Drained d = marked d ≡ true
 
 module _ (d e : Decoder) (piece : List ℕ) (n : ℕ) (f : GatewayTakes d piece n e) where
-  pub took : n ≡ gatewayCount (bufferOf d) piece
-  took = sym f.1 ∙ ap (placeOr 0) f.2.answer
+  pub took : n ≡ gateway_count (buffer_of d) piece
+  took = sym f.1 ∙ ap (place_or 0) f.2.answer
 
   took-unread : unread e ≡ unread d ++ take n piece
-  took-unread = ap (λ (l : Buffer). l.unread) f.2.after.is ∙ gateway-keeps (bufferOf d) piece ∙ ap (λ (k : ℕ). unread d ++ take k piece) (sym took)
+  took-unread = ap (λ (l : Buffer). l.unread) f.2.after.is ∙ gateway-keeps (buffer_of d) piece ∙ ap (λ (k : ℕ). unread d ++ take k piece) (sym took)
 
   -- A mark that is there was there, and nothing changed.
-  took-mark : marked e ≡ true → bufferOf e ≡ bufferOf d
-  took-mark m = f.2.after.is ∙ gateway-mark (bufferOf d) piece (sym (ap (λ (l : Buffer). l.drained) f.2.after.is) ∙ m)
+  took-mark : marked e ≡ true → buffer_of e ≡ buffer_of d
+  took-mark m = f.2.after.is ∙ gateway-mark (buffer_of d) piece (sym (ap (λ (l : Buffer). l.drained) f.2.after.is) ∙ m)
 
-pub gateway-faithful : Faithful decodeJudge gatewayCalls unread Drained
+pub gateway-faithful : Faithful decode_judge gateway_calls unread Drained
 gateway-faithful =
     record {
       next = next-searches _ _;
       fresh = λ h. ap (λ (l : Buffer). l.unread) h.is;
       first = λ h. ap (λ (l : Buffer). l.drained) h.is;
-      asked = λ {s} (count, reply, is). ap (λ (l : Buffer). l.drained) is.after.is ∙ next-mark decodeJudge (bufferOf s) false (sym is.given);
+      asked = λ {s} (count, reply, is). ap (λ (l : Buffer). l.drained) is.after.is ∙ next-mark decode_judge (buffer_of s) false (sym is.given);
       feeds = λ {s} {t} {piece} {n} ready may f. took-unread s t piece n f;
       some = λ {s} {t} {piece} {n} ready some f.
-          let never = never-clears (bufferOf s) piece ready ((fits s).few ready) some in
-          omega (arith, took s t piece n f, ap (placeOr 0) never.same_count, never.takes-some);
-      most = λ {s} {t} {piece} {n} f. rw (took s t piece n f) (gateway-most (bufferOf s) piece);
+          let never = never-clears (buffer_of s) piece ready ((fits s).few ready) some in
+          omega (arith, took s t piece n f, ap (place_or 0) never.same_count, never.takes-some);
+      most = λ {s} {t} {piece} {n} f. rw (took s t piece n f) (gateway-most (buffer_of s) piece);
     }
 
-pub gateway-keeping : Keeping decodeJudge gatewayCalls unread marked
+pub gateway-keeping : Keeping decode_judge gateway_calls unread marked
 gateway-keeping =
     record {
       next = next-searches _ _;
@@ -67,7 +67,7 @@ gateway-keeping =
       fed-mark = λ {s} {t} {piece} {n} f m.
           let same = took-mark s t piece n f m in
           (sym (ap (λ (l : Buffer). l.drained) same) ∙ m, ap (λ (l : Buffer). l.unread) same);
-      reply-mark = λ {s} is m. true≢false (sym m ∙ ap (λ (l : Buffer). l.drained) is.after.is ∙ next-mark decodeJudge (bufferOf s) true (sym is.given));
+      reply-mark = λ {s} is m. true≢false (sym m ∙ ap (λ (l : Buffer). l.drained) is.after.is ∙ next-mark decode_judge (buffer_of s) true (sym is.given));
     }
 
 -- ---- every call can be answered
@@ -75,14 +75,14 @@ gateway-keeping =
 -- The decoder that a call hands back where nothing changes: the same one, or for one that no calls can make another with the buffer that it is taken for.
 record Kept (d : Decoder) : Type 0 where
   after : Decoder
-  is : BufferIs (bufferOf d) after
+  is : BufferIs (buffer_of d) after
   same : Sound d → after ≡ d
 
 kept : (d : Decoder) → Kept d
 kept d = by (ltb 512 d.wpos) refl (ltb d.wpos d.rpos) refl (eqb (length d.buf) 512) refl d.drained refl (ltb 109 (d.wpos - d.rpos)) refl
   where
     other : (Sound d → ⊥) → Kept d
-    other never = let h = holder (bufferOf d) (fits d) in record { after = h.0; is = h.1; same = λ s. absurd (never s) }
+    other never = let h = holder (buffer_of d) (fits d) in record { after = h.0; is = h.1; same = λ s. absurd (never s) }
 
     itself : Sound d → Kept d
     itself s = record { after = d; is = record { is = refl; sound = s }; same = λ t. refl }
@@ -99,31 +99,31 @@ kept d = by (ltb 512 d.wpos) refl (ltb d.wpos d.rpos) refl (eqb (length d.buf) 5
         itself (record { low = ltb-false _ _ f; high = ltb-false _ _ e; long = eqb-true _ _ g; few = λ q. absurd (true≢false (sym q ∙ h)) })
 
 -- Every `gateway_feed` can be answered.
-pub gateway-answers : (d : Decoder) (piece : List ℕ) → (e : Decoder) × GatewayTakes d piece (gatewayCount (bufferOf d) piece) e
+pub gateway-answers : (d : Decoder) (piece : List ℕ) → (e : Decoder) × GatewayTakes d piece (gateway_count (buffer_of d) piece) e
 gateway-answers d piece = by (eqb (length piece) 0) refl (marked d) refl
   where
-    answered : (answer : Taken) (e : Decoder) → GatewayFeedIs d piece (record { answer = answer; decoder = e }) → (e : Decoder) × GatewayTakes d piece (gatewayCount (bufferOf d) piece) e
-    answered answer e is = (e, (answer, ap (placeOr 0) is.answer, is))
+    answered : (answer : Taken) (e : Decoder) → GatewayFeedIs d piece (record { answer = answer; decoder = e }) → (e : Decoder) × GatewayTakes d piece (gateway_count (buffer_of d) piece) e
+    answered answer e is = (e, (answer, ap (place_or 0) is.answer, is))
 
-    stays : (answer : Taken) → (gatewayAnswer (bufferOf d) piece ≡ takenAnswer answer) × (gatewayBuffer (bufferOf d) piece ≡ bufferOf d)
-        → (e : Decoder) × GatewayTakes d piece (gatewayCount (bufferOf d) piece) e
+    stays : (answer : Taken) → (gateway_answer (buffer_of d) piece ≡ taken_answer answer) × (gateway_buffer (buffer_of d) piece ≡ buffer_of d)
+        → (e : Decoder) × GatewayTakes d piece (gateway_count (buffer_of d) piece) e
     stays answer g = let k = kept d in answered answer k.after (gateway-stays d piece answer k.after k.is k.same g)
 
-    by : (a : Bool) → eqb (length piece) 0 ≡ a → (m : Bool) → marked d ≡ m → (e : Decoder) × GatewayTakes d piece (gatewayCount (bufferOf d) piece) e
-    by true e m h = stays (Bytes 0) (gateway-empty (bufferOf d) piece e)
+    by : (a : Bool) → eqb (length piece) 0 ≡ a → (m : Bool) → marked d ≡ m → (e : Decoder) × GatewayTakes d piece (gateway_count (buffer_of d) piece) e
+    by true e m h = stays (Bytes 0) (gateway-empty (buffer_of d) piece e)
     by false e true h =
-        let k = holder (gatewayBuffer (bufferOf d) piece) (gateway-fits (bufferOf d) piece (fits d)) in
-        let g = gateway-takes (bufferOf d) piece e h in
+        let k = holder (gateway_buffer (buffer_of d) piece) (gateway-fits (buffer_of d) piece (fits d)) in
+        let g = gateway-takes (buffer_of d) piece e h in
         answered _ k.0 (gateway-copied d piece _ k.0 e h refl refl (record { is = k.1.is ∙ g.1; sound = k.1.sound }))
-    by false e false h = stays (Refused NotDrained) (gateway-refuses (bufferOf d) piece e h)
+    by false e false h = stays (Refused NotDrained) (gateway-refuses (buffer_of d) piece e h)
 
-pub gateway-able : Able gatewayCalls
+pub gateway-able : Able gateway_calls
 gateway-able =
     record {
       first = a-fresh-one.0;
       fresh = a-fresh-one.1;
       piece = λ some. tt;
-      feeds = λ d piece. let e = gateway-answers d piece in (gatewayCount (bufferOf d) piece, e.0, e.1);
+      feeds = λ d piece. let e = gateway-answers d piece in (gateway_count (buffer_of d) piece, e.0, e.1);
       next = next-answers _ _;
     }
 
@@ -131,7 +131,7 @@ gateway-able =
 
 -- They are sound, so that their own mark is the buffer's.
 any-sound : {Free : Type 0} {pieces ahead : List (List ℕ)} {taken : List ℕ} {replies : List CommandReply} {d : Decoder}
-    → AnyOrder gatewayCalls Free pieces ahead taken replies d → Sound d
+    → AnyOrder gateway_calls Free pieces ahead taken replies d → Sound d
 any-sound (begins first) = first.sound
 any-sound (feeds order fed) = fed.2.after.sound
 any-sound (gives_one order gave) = gave.after.sound
@@ -139,11 +139,11 @@ any-sound (gives_none order none) = none.2.after.sound
 any-sound (cuts-anew other may order same) = any-sound order
 
 pub any-mark : {Free : Type 0} {pieces ahead : List (List ℕ)} {taken : List ℕ} {replies : List CommandReply} {d : Decoder}
-    → AnyOrder gatewayCalls Free pieces ahead taken replies d → d.drained ≡ marked d
+    → AnyOrder gateway_calls Free pieces ahead taken replies d → d.drained ≡ marked d
 any-mark {d = d} order = marked-buffer d _ (record { is = refl; sound = any-sound order })
 
 pub any-reached : {Free : Type 0} {pieces ahead : List (List ℕ)} {taken : List ℕ} {replies : List CommandReply} {d : Decoder}
-    → AnyOrder gatewayCalls Free pieces ahead taken replies d → (totals : Totals) × GatewayReached totals d
+    → AnyOrder gateway_calls Free pieces ahead taken replies d → (totals : Totals) × GatewayReached totals d
 any-reached (begins first) = (_, at_first first)
 any-reached (feeds order fed) = (_, by-feed (any-reached order).1 fed)
 any-reached (gives_one order gave) = (_, by-reply (any-reached order).1 gave)
@@ -151,9 +151,9 @@ any-reached (gives_none order none) = (_, by-nothing (any-reached order).1 none)
 any-reached (cuts-anew other may order same) = any-reached order
 
 -- None of these calls clears a byte.
-pub reached-cleared : {totals : Totals} {d : Decoder} → GatewayReached totals d → (bufferOf d).cleared ≡ 0
+pub reached-cleared : {totals : Totals} {d : Decoder} → GatewayReached totals d → (buffer_of d).cleared ≡ 0
 reached-cleared (at_first first) = ap (λ (l : Buffer). l.cleared) first.is
 reached-cleared (by-feed {s = s} {piece = piece} reached fed) =
-    ap (λ (l : Buffer). l.cleared) fed.2.after.is ∙ gateway-cleared (bufferOf s) piece ∙ reached-cleared reached
-reached-cleared (by-reply {s = s} reached gave) = ap (λ (l : Buffer). l.cleared) gave.after.is ∙ next-cleared decodeJudge (bufferOf s) ∙ reached-cleared reached
-reached-cleared (by-nothing {s = s} reached none) = ap (λ (l : Buffer). l.cleared) none.2.after.is ∙ next-cleared decodeJudge (bufferOf s) ∙ reached-cleared reached
+    ap (λ (l : Buffer). l.cleared) fed.2.after.is ∙ gateway-cleared (buffer_of s) piece ∙ reached-cleared reached
+reached-cleared (by-reply {s = s} reached gave) = ap (λ (l : Buffer). l.cleared) gave.after.is ∙ next-cleared decode_judge (buffer_of s) ∙ reached-cleared reached
+reached-cleared (by-nothing {s = s} reached none) = ap (λ (l : Buffer). l.cleared) none.2.after.is ∙ next-cleared decode_judge (buffer_of s) ∙ reached-cleared reached

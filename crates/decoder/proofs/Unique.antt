@@ -4,19 +4,19 @@ use Prim.Native.Nat.{ℕ}
 use native.Mathlib.Omega.{arith}
 use Rattle.refusals.specs.Refusals.{Answer, ok, refused}
 use Rattle.refusals.specs.OneAnswer.{ToldApart}
-use Rattle.refusals.proofs.Unique.{told-apart, feedBack, feed-back}
+use Rattle.refusals.proofs.Unique.{told-apart, feed_back, feed-back}
 use Rattle.buffer.specs.Buffer.{Buffer}
 use Rattle.buffer.proofs.Feeding.{buffer-same}
 use Rattle.decoder.specs.declared.Decoder.{Decoder}
 use Rattle.decoder.specs.declared.Taken.{Taken}
 use Rattle.decoder.specs.declared.Taken.TheVariants.{Bytes, Refused}
-use Rattle.decoder.specs.State.{fieldsBuffer, BufferIs, takenAnswer}
+use Rattle.decoder.specs.State.{fields_buffer, BufferIs, taken_answer}
 use Rattle.decoder.specs.OneAnswer.{UnusedApart, OneAnswer}
 use Rattle.decoder.proofs.States.{sound-buffer, held-buffer}
 
 pub holds-unique : (buffer : Buffer) (d e : Decoder) → BufferIs buffer d → BufferIs buffer e → UnusedApart d e
 holds-unique buffer d e h k =
-    let same : fieldsBuffer d ≡ fieldsBuffer e = sym (sound-buffer d h.sound) ∙ h.is ∙ sym k.is ∙ sound-buffer e k.sound in
+    let same : fields_buffer d ≡ fields_buffer e = sym (sound-buffer d h.sound) ∙ h.is ∙ sym k.is ∙ sound-buffer e k.sound in
     let wpos : d.wpos ≡ e.wpos = ap (λ (l : Buffer). l.wpos) same in
     record {
       rpos = omega (arith, held-buffer d buffer h, held-buffer e buffer k, h.sound.low, k.sound.low);
@@ -29,17 +29,17 @@ holds-unique buffer d e h k =
       drained = ap (λ (l : Buffer). l.drained) same;
     }
 
-takenBack : Answer ℕ → Taken
-takenBack (ok count) = Bytes count
-takenBack (refused why) = Refused (feedBack why)
+taken_again : Answer ℕ → Taken
+taken_again (ok count) = Bytes count
+taken_again (refused why) = Refused (feed_back why)
 
-taken_back : (a : Taken) → takenBack (takenAnswer a) ≡ a
-unfolding takenBack
+taken_back : (a : Taken) → taken_again (taken_answer a) ≡ a
+unfolding taken_again
 taken_back (Bytes count) = refl
 taken_back (Refused e) = ap Refused (feed-back e)
 
-taken-unique : ToldApart takenAnswer
-taken-unique = told-apart takenAnswer takenBack taken_back
+taken-unique : ToldApart taken_answer
+taken-unique = told-apart taken_answer taken_again taken_back
 
 pub one_answer : OneAnswer
 one_answer =
@@ -58,5 +58,5 @@ one_answer =
         holds-unique _ a.decoder b.decoder p.after q.after,
       );
       unused = λ d e s t u.
-          sound-buffer d s ∙ buffer-same (fieldsBuffer d) (fieldsBuffer e) u.unread u.wpos u.fed u.handed u.passed u.cleared u.drained ∙ sym (sound-buffer e t);
+          sound-buffer d s ∙ buffer-same (fields_buffer d) (fields_buffer e) u.unread u.wpos u.fed u.handed u.passed u.cleared u.drained ∙ sym (sound-buffer e t);
     }

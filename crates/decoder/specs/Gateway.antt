@@ -6,7 +6,7 @@ use Rattle.buffer.specs.Runs.{Totals}
 use Rattle.decoder.specs.declared.Decoder.{Decoder}
 use Rattle.decoder.specs.declared.Fed.{Fed}
 use Rattle.decoder.specs.declared.GatewayFed.{GatewayFed}
-use Rattle.decoder.specs.State.{bufferOf, FeedIs, takenAnswer, GatewayFeedIs}
+use Rattle.decoder.specs.State.{buffer_of, FeedIs, taken_answer, GatewayFeedIs}
 use Rattle.decoder.specs.OneAnswer.{UnusedApart}
 use Rattle.decoder.specs.Runs.{Reached}
 
@@ -14,8 +14,8 @@ pub record GatewayLaws : Type 0 where
   -- "There at most 109 bytes are unread": whatever calls made the decoder, of either feed
   pub few : {totals : Totals} {d : Decoder} → Reached totals d → d.drained ≡ true → d.wpos - d.rpos ≤ 109
   -- "so after moving them there is always room. Show that clearing can never happen there"
-  pub never-clears : (d : Decoder) (piece : List ℕ) → (bufferOf d).drained ≡ true → 0 < length piece → NeverClears (bufferOf d) piece
+  pub never-clears : (d : Decoder) (piece : List ℕ) → (buffer_of d).drained ≡ true → 0 < length piece → NeverClears (buffer_of d) piece
   -- For a nonempty piece and a drained decoder both feeds return the same count and the same state
   pub same : (d : Decoder) (piece : List ℕ) (g : GatewayFed) (f : Fed) → GatewayFeedIs d piece g → FeedIs d piece f
-      → (bufferOf d).drained ≡ true → 0 < length piece
-      → (takenAnswer g.answer ≡ ok f.count) × UnusedApart g.decoder f.decoder
+      → (buffer_of d).drained ≡ true → 0 < length piece
+      → (taken_answer g.answer ≡ ok f.count) × UnusedApart g.decoder f.decoder

@@ -2,13 +2,13 @@
 -- buffer, handed in and handed back by each call". What the calls do to the buffer is defined in crate `buffer`.
 use Rattle.std.specs.Prelude.{true, cond, ◌&&◌, List, ◌≡◌, ℕ, ◌-◌, ◌≤◌, ltb, length}
 use Rattle.std.proofs.Math.Seq.{slice}
-use Rattle.refusals.specs.Refusals.{Answer, ok, refused, feedRefusal}
-use Rattle.format.specs.Format.{capacity, drainedMost}
-use Rattle.stream.specs.Searching.{Search, found_at, nothingAt}
-use Rattle.buffer.specs.Buffer.{Buffer, fresh, feedCount, fedBuffer, gatewayAnswer, gatewayCount, gatewayBuffer, nextGiven, nextCount, nextReply, nextBuffer}
+use Rattle.refusals.specs.Refusals.{Answer, ok, refused, feed_refusal}
+use Rattle.format.specs.Format.{capacity, drained_most}
+use Rattle.stream.specs.Searching.{Search, found_at, nothing_at}
+use Rattle.buffer.specs.Buffer.{Buffer, fresh, feed_count, fed_buffer, gateway_answer, gateway_count, gateway_buffer, next_given, next_count, next_reply, next_buffer}
 use Rattle.reply.specs.declared.CommandReply.{CommandReply}
-use Rattle.reply.specs.Reply.{emptyReply}
-use Rattle.reply.specs.Decode.{replyIn}
+use Rattle.reply.specs.Reply.{empty_reply}
+use Rattle.reply.specs.Decode.{reply_in}
 use Rattle.decoder.specs.declared.Decoder.{Decoder}
 use Rattle.decoder.specs.declared.Fed.{Fed}
 use Rattle.decoder.specs.declared.Taken.{Taken}
@@ -18,11 +18,11 @@ use Rattle.decoder.specs.declared.Next.{Next}
 use Rattle.decoder.specs.declared.Figures.{Figures}
 use Rattle.decoder.specs.declared.Sought.{Sought}
 use Rattle.decoder.specs.declared.Sought.TheVariants.{Found, Nothing}
-use Rattle.decoder.specs.Judge.{decodeJudge}
+use Rattle.decoder.specs.Judge.{decode_judge}
 
 -- the buffer, by the fields: unread are the bytes from the read position to the write position
-abbrev pub fieldsBuffer : Decoder → Buffer
-fieldsBuffer d =
+abbrev pub fields_buffer : Decoder → Buffer
+fields_buffer d =
     record {
       unread = slice d.rpos d.wpos d.buf;
       wpos = d.wpos;
@@ -35,57 +35,57 @@ fieldsBuffer d =
 
 -- "A state no calls can make, its read position past its write position or that one past 512, is taken as a fresh one". Document 02, W12: "A state marked
 -- drained with over 109 bytes unread joins those taken as fresh", and besides, "for a state handed in the mark decides"
-unfoldable pub bufferOf : Decoder → Buffer
-bufferOf d =
+unfoldable pub buffer_of : Decoder → Buffer
+buffer_of d =
     cond (ltb capacity d.wpos) fresh
-    (cond (ltb d.wpos d.rpos) fresh (cond (d.drained && ltb drainedMost (d.wpos - d.rpos)) fresh (fieldsBuffer d)))
+    (cond (ltb d.wpos d.rpos) fresh (cond (d.drained && ltb drained_most (d.wpos - d.rpos)) fresh (fields_buffer d)))
 
 -- a state that is none of those
 pub record Sound (d : Decoder) : Type 0 where
   pub low : d.rpos ≤ d.wpos
   pub high : d.wpos ≤ capacity
   pub long : length d.buf ≡ capacity
-  pub few : d.drained ≡ true → d.wpos - d.rpos ≤ drainedMost
+  pub few : d.drained ≡ true → d.wpos - d.rpos ≤ drained_most
 
 -- such a state, with the buffer that it holds
 pub record BufferIs (buffer : Buffer) (d : Decoder) : Type 0 where
-  pub is : bufferOf d ≡ buffer
+  pub is : buffer_of d ≡ buffer
   pub sound : Sound d
 
 -- what `feed` hands back
 pub record FeedIs (self : Decoder) (piece : List ℕ) (r : Fed) : Type 0 where
-  pub count : r.count ≡ feedCount (bufferOf self) piece
-  pub after : BufferIs (fedBuffer (bufferOf self) piece) r.decoder
+  pub count : r.count ≡ feed_count (buffer_of self) piece
+  pub after : BufferIs (fed_buffer (buffer_of self) piece) r.decoder
 
 -- the bytes that the gateway feed took, or the refusal
-abbrev pub takenAnswer : Taken → Answer ℕ
-takenAnswer (Bytes count) = ok count
-takenAnswer (Refused e) = refused (feedRefusal e)
+abbrev pub taken_answer : Taken → Answer ℕ
+taken_answer (Bytes count) = ok count
+taken_answer (Refused e) = refused (feed_refusal e)
 
 -- what `gateway_feed` hands back
 pub record GatewayFeedIs (self : Decoder) (piece : List ℕ) (r : GatewayFed) : Type 0 where
-  pub answer : takenAnswer r.answer ≡ gatewayAnswer (bufferOf self) piece
-  pub after : BufferIs (gatewayBuffer (bufferOf self) piece) r.decoder
+  pub answer : taken_answer r.answer ≡ gateway_answer (buffer_of self) piece
+  pub after : BufferIs (gateway_buffer (buffer_of self) piece) r.decoder
   -- "changes nothing", "nothing changed": where no byte is taken, no unused byte is another either. A state that no calls can make is taken as a fresh
   -- one, and comes back as such
-  pub unchanged : Sound self → gatewayCount (bufferOf self) piece ≡ 0 → r.decoder ≡ self
+  pub unchanged : Sound self → gateway_count (buffer_of self) piece ≡ 0 → r.decoder ≡ self
 
 -- what `next` hands back
 pub record NextIs (self : Decoder) (r : Next) : Type 0 where
-  pub given : r.given ≡ nextGiven decodeJudge (bufferOf self)
-  pub count : r.count ≡ nextCount decodeJudge (bufferOf self)
-  pub reply : r.reply ≡ nextReply decodeJudge emptyReply (bufferOf self)
-  pub after : BufferIs (nextBuffer decodeJudge (bufferOf self)) r.decoder
+  pub given : r.given ≡ next_given decode_judge (buffer_of self)
+  pub count : r.count ≡ next_count decode_judge (buffer_of self)
+  pub reply : r.reply ≡ next_reply decode_judge empty_reply (buffer_of self)
+  pub after : BufferIs (next_buffer decode_judge (buffer_of self)) r.decoder
 
 -- "held, unread now"
 abbrev pub held_of : Buffer → ℕ
 held_of buffer = length buffer.unread
 
 -- the five line figures
-abbrev pub figuresOf : Buffer → Figures
-figuresOf buffer = record { fed = buffer.fed; handed = buffer.handed; passed = buffer.passed; cleared = buffer.cleared; held = held_of buffer }
+abbrev pub figures_of : Buffer → Figures
+figures_of buffer = record { fed = buffer.fed; handed = buffer.handed; passed = buffer.passed; cleared = buffer.cleared; held = held_of buffer }
 
 -- the search that a `Sought` tells of: bytes moved over, and the count of the frame behind them
-abbrev pub searchOf : List ℕ → Sought → Search CommandReply
-searchOf unread (Found over count) = found_at replyIn unread over count
-searchOf unread (Nothing over) = nothingAt unread over
+abbrev pub search_of : List ℕ → Sought → Search CommandReply
+search_of unread (Found over count) = found_at reply_in unread over count
+search_of unread (Nothing over) = nothing_at unread over

@@ -6,9 +6,9 @@ ghost use Rattle.std.specs.Prelude.{◌≡◌, ◌+◌, ◌≤◌, length, drop}
 ghost use Rattle.std.proofs.Math.Seq.{paste};
 ghost use Rattle.format.specs.Format.{capacity};
 ghost use Rattle.stream.specs.Searching.{search};
-ghost use Rattle.buffer.specs.Buffer.{fresh, at_most, raised, moved, emptied, fitting, markFed, copied};
-ghost use Rattle.decoder.specs.Judge.{decodeJudge};
-ghost use Rattle.decoder.specs.State.{bufferOf, Sound, BufferIs, FeedIs, GatewayFeedIs, NextIs, held_of, figuresOf, searchOf};
+ghost use Rattle.buffer.specs.Buffer.{fresh, at_most, raised, moved, emptied, fitting, mark_fed, copied};
+ghost use Rattle.decoder.specs.Judge.{decode_judge};
+ghost use Rattle.decoder.specs.State.{buffer_of, Sound, BufferIs, FeedIs, GatewayFeedIs, NextIs, held_of, figures_of, search_of};
 
 use refusals::{Consumed, DecodeError, FeedError};
 use reply::CommandReply;
@@ -96,7 +96,7 @@ fn at_most(room: usize, n: usize) -> usize
 
 // The mark after a piece of so many bytes: an empty one leaves it as it is.
 fn mark_fed(drained: bool, offered: usize) -> bool
-    ensures { result ≡ markFed offered drained }
+    ensures { result ≡ mark_fed offered drained }
 {
     if offered == 0 { drained } else { false }
 }
@@ -127,7 +127,7 @@ fn copy_in(buf: &mut [u8; format::CAPACITY], at: usize, piece: &[u8], n: usize)
 
 // A byte that starts no frame is not given to `judge`, so that noise costs a comparison.
 fn seek(unread: &[u8]) -> Sought
-    ensures { searchOf unread.now result ≡ search decodeJudge unread.now }
+    ensures { search_of unread.now result ≡ search decode_judge unread.now }
 {
     let mut over: usize = 0;
     while over < unread.len() {
@@ -165,7 +165,7 @@ impl Decoder {
 
     // A state that no calls can make is taken as a fresh one.
     fn settled(self) -> Decoder
-        ensures buffer_is { BufferIs (bufferOf self) result }
+        ensures buffer_is { BufferIs (buffer_of self) result }
         ensures value { Sound self → result ≡ self }
     {
         if format::CAPACITY < self.wpos {
@@ -184,7 +184,7 @@ impl Decoder {
 
     fn moved(mut self, n: usize) -> Decoder
         requires { Sound self }
-        ensures { BufferIs (moved n (bufferOf self)) result }
+        ensures { BufferIs (moved n (buffer_of self)) result }
     {
         let rpos = self.rpos;
         let wpos = self.wpos;
@@ -201,7 +201,7 @@ impl Decoder {
     // As in the Rust, also where an empty piece is fed and the tail is full. The mark stays: only `next` sets it.
     fn emptied(mut self) -> Decoder
         requires { Sound self }
-        ensures { BufferIs (emptied (bufferOf self)) result }
+        ensures { BufferIs (emptied (buffer_of self)) result }
     {
         let rpos = self.rpos;
         let wpos = self.wpos;
@@ -217,8 +217,8 @@ impl Decoder {
 
     fn copied(mut self, piece: &[u8]) -> Fed
         requires { Sound self }
-        ensures count_value { result.count ≡ fitting (length piece.now) (bufferOf self) }
-        ensures buffer_is { BufferIs (copied piece.now result.count (bufferOf self)) result.decoder }
+        ensures count_value { result.count ≡ fitting (length piece.now) (buffer_of self) }
+        ensures buffer_is { BufferIs (copied piece.now result.count (buffer_of self)) result.decoder }
     {
         let wpos = self.wpos;
         let offered = piece.len();
@@ -315,7 +315,7 @@ impl Decoder {
 
     // The bytes unread now.
     pub fn held(self) -> u64
-        ensures { result ≡ held_of (bufferOf self) }
+        ensures { result ≡ held_of (buffer_of self) }
     {
         let decoder = self.settled();
         let unread = decoder.wpos - decoder.rpos;
@@ -324,7 +324,7 @@ impl Decoder {
 
     // The line figures as they stand now.
     pub fn figures(self) -> Figures
-        ensures { result ≡ figuresOf (bufferOf self) }
+        ensures { result ≡ figures_of (buffer_of self) }
     {
         let decoder = self.settled();
         let unread = decoder.wpos - decoder.rpos;

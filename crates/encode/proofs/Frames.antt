@@ -7,12 +7,12 @@ use Rattle.refusals.specs.Refusals.{ok}
 use Rattle.refusals.specs.declared.EncodeError.TheVariants.{BufferTooSmall, PayloadTooLong}
 use Rattle.command.specs.Commands.{bytes_of}
 use Rattle.command.specs.declared.Command.{Command}
-use Rattle.format.specs.Format.{id_of, payloadMax}
+use Rattle.format.specs.Format.{id_of, payload_max}
 use Rattle.format.specs.declared.CommandId.TheVariants.{ForwardCan}
-use Rattle.frame.specs.Frame.{short, frame_of, frameSize}
-use Rattle.frame.specs.Wrapping.{wrapAnswer}
+use Rattle.frame.specs.Frame.{short, frame_of, frame_size}
+use Rattle.frame.specs.Wrapping.{wrap_answer}
 use Rattle.frame.proofs.Wrapped.{answer-too-long, answer-too-small, answer-fits, after-answer}
-use Rattle.encode.specs.Payload.{hopBytes, payloadOf}
+use Rattle.encode.specs.Payload.{hop_bytes, payload_of}
 use Rattle.encode.specs.Encode.{encoded, EncodeIs}
 use Rattle.encode.specs.Writes.{PutIs}
 use Rattle.encode.specs.declared.Encoded.{Encoded}
@@ -22,32 +22,32 @@ use Rattle.encode.proofs.Puts.{then}
 
 -- ---- runs of writes
 pub hop-put : {l m n after : List ℕ} {at mid end next : ℕ} (hops : List ℕ) (left : ℕ) → 0 < left → left ≤ length hops → PutIs (id_of ForwardCan ∷ []) l at mid m
-    → PutIs (get_or hops (length hops - left) 0 ∷ []) m mid end n → PutIs (hopBytes (drop (length hops - (left - 1)) hops)) n end next after
-    → PutIs (hopBytes (drop (length hops - left) hops)) l at next after
+    → PutIs (get_or hops (length hops - left) 0 ∷ []) m mid end n → PutIs (hop_bytes (drop (length hops - (left - 1)) hops)) n end next after
+    → PutIs (hop_bytes (drop (length hops - left) hops)) l at next after
 hop-put hops left h k f g rest = rw (one-hop hops left h k) (then f (then g rest))
 
-pub payload-put : {l m after : List ℕ} {at mid next : ℕ} (command : Command) (hops : List ℕ) → PutIs (hopBytes (drop (length hops - length hops) hops)) l at mid m
-    → PutIs (bytes_of command) m mid next after → PutIs (payloadOf command hops) l at next after
-unfolding payloadOf
+pub payload-put : {l m after : List ℕ} {at mid next : ℕ} (command : Command) (hops : List ℕ) → PutIs (hop_bytes (drop (length hops - length hops) hops)) l at mid m
+    → PutIs (bytes_of command) m mid next after → PutIs (payload_of command hops) l at next after
+unfolding payload_of
 payload-put command hops f g = then (rw (all-hops hops) at f) g
 
 -- ---- the answer of the whole
 module _ (command : Command) (hops l : List ℕ) where
   abbrev payload : List ℕ
-  payload = payloadOf command hops
+  payload = payload_of command hops
 
-  pub too_long : payloadMax < length payload → EncodeIs command hops l (Refused PayloadTooLong) l
+  pub too_long : payload_max < length payload → EncodeIs command hops l (Refused PayloadTooLong) l
   too_long h =
-      let a : wrapAnswer (length payload) (length l) ≡ _ = answer-too-long _ _ h in
+      let a : wrap_answer (length payload) (length l) ≡ _ = answer-too-long _ _ h in
       record { answer = sym a; holds = sym (after-answer payload l _ a) }
 
-  pub too_small : length payload ≤ payloadMax → length l < frameSize short (length payload) → EncodeIs command hops l (Refused BufferTooSmall) l
+  pub too_small : length payload ≤ payload_max → length l < frame_size short (length payload) → EncodeIs command hops l (Refused BufferTooSmall) l
   too_small h k =
-      let a : wrapAnswer (length payload) (length l) ≡ _ = answer-too-small _ _ h k in
+      let a : wrap_answer (length payload) (length l) ≡ _ = answer-too-small _ _ h k in
       record { answer = sym a; holds = sym (after-answer payload l _ a) }
 
-  pub framed : {after : List ℕ} {a : Encoded} (count : ℕ) → length payload ≤ payloadMax → frameSize short (length payload) ≤ length l → count ≡ frameSize short (length payload)
+  pub framed : {after : List ℕ} {a : Encoded} (count : ℕ) → length payload ≤ payload_max → frame_size short (length payload) ≤ length l → count ≡ frame_size short (length payload)
       → encoded a ≡ ok count → after ≡ frame_of short payload ++ drop (length (frame_of short payload)) l → EncodeIs command hops l a after
   framed count h k size answers holds =
-      let a : wrapAnswer (length payload) (length l) ≡ _ = answer-fits _ _ h k in
+      let a : wrap_answer (length payload) (length l) ≡ _ = answer-fits _ _ h k in
       record { answer = answers ∙ ap ok size ∙ sym a; holds = holds ∙ sym (after-answer payload l _ a) }

@@ -7,17 +7,17 @@ use lib.ListN.{length}
 use Rattle.refusals.specs.Refusals.{ok}
 use Rattle.command.specs.declared.Command.TheVariants.{SetRpm, Alive}
 use Rattle.command.proofs.Sizes.{sizes}
-use Rattle.encode.specs.Payload.{payloadOf}
-use Rattle.frame.specs.Wrapping.{wrapAnswer}
+use Rattle.encode.specs.Payload.{payload_of}
+use Rattle.frame.specs.Wrapping.{wrap_answer}
 use Rattle.encode.specs.Limits.{HopLimits}
 use Rattle.encode.proofs.Payloads.{payload-length}
 use Rattle.frame.proofs.Wrapped.{answer-too-long, answer-fits}
 
 -- the longest payload passes where there is room
-passes : (n room : ℕ) → n ≡ 255 → 260 ≤ room → wrapAnswer n room ≡ ok 260
+passes : (n room : ℕ) → n ≡ 255 → 260 ≤ room → wrap_answer n room ≡ ok 260
 passes n room e k = rw e (answer-fits 255 room (omega arith) k)
 
-alive-255 : (hops : List ℕ) → length hops ≡ 127 → length (payloadOf Alive hops) ≡ 255
+alive-255 : (hops : List ℕ) → length hops ≡ 127 → length (payload_of Alive hops) ≡ 255
 alive-255 hops e = omega (arith, payload-length Alive hops)
 
 pub hop-limits : HopLimits

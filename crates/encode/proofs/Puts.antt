@@ -6,7 +6,7 @@ use native.Mathlib.Omega.{arith}
 use lib.ListN.{length, length-append}
 use Rattle.refusals.specs.Refusals.{ok, refused}
 use Rattle.refusals.proofs.Different.{none as never}
-use Rattle.packer.specs.Packing.{packAnswer, PackIs}
+use Rattle.packer.specs.Packing.{pack_answer, PackIs}
 use Rattle.packer.specs.declared.Packed.{Packed}
 use Rattle.packer.specs.declared.Packed.TheVariants.{Next, Refused}
 use Rattle.packer.proofs.Writes.{fits-answer, after-length, none-packed, two-packs}
@@ -16,15 +16,15 @@ use Rattle.encode.specs.Writes.{PutIs, place_of}
 pub placed : {bytes l after : List ℕ} {at next : ℕ} (r : Packed) → PackIs bytes l at r after → next ≡ place_of r → PutIs bytes l at next after
 placed (Next place) w e room = rw e w
 placed {bytes} {l} {after} {at} (Refused x) w e room =
-    let g : packAnswer bytes l at ≡ ok (at + length bytes) = fits-answer bytes l at room in
-    let a : refused _ ≡ packAnswer bytes l at = w.answer in
+    let g : pack_answer bytes l at ≡ ok (at + length bytes) = fits-answer bytes l at room in
+    let a : refused _ ≡ pack_answer bytes l at = w.answer in
     never (cc)
 
 -- the place after the bytes, where they were written
 pub past : {bytes l after : List ℕ} {at next : ℕ} → PackIs bytes l at (Next next) after → at + length bytes ≤ length l → next ≡ at + length bytes
 past {bytes} {l} {after} {at} {next} w room =
-    let g : packAnswer bytes l at ≡ ok (at + length bytes) = fits-answer bytes l at room in
-    let a : ok next ≡ packAnswer bytes l at = w.answer in
+    let g : pack_answer bytes l at ≡ ok (at + length bytes) = fits-answer bytes l at room in
+    let a : ok next ≡ pack_answer bytes l at = w.answer in
     cc
 
 -- and the buffer is no longer or shorter than it was

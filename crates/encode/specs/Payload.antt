@@ -6,10 +6,10 @@ use Rattle.command.specs.Commands.{bytes_of}
 use Rattle.command.specs.declared.Command.{Command}
 
 -- "Each forwarding hop puts 34 and a controller id in front of the rest."
-unfoldable pub hopBytes : List ℕ → List ℕ
-hopBytes [] = []
-hopBytes (id ∷ hops) = id_of ForwardCan ∷ id ∷ hopBytes hops
+unfoldable pub hop_bytes : List ℕ → List ℕ
+hop_bytes [] = []
+hop_bytes (id ∷ hops) = id_of ForwardCan ∷ id ∷ hop_bytes hops
 
 -- the payload of a command behind its hops, the first hop first
-unfoldable pub payloadOf : Command → List ℕ → List ℕ
-payloadOf command hops = hopBytes hops ++ bytes_of command
+unfoldable pub payload_of : Command → List ℕ → List ℕ
+payload_of command hops = hop_bytes hops ++ bytes_of command

@@ -1,6 +1,6 @@
 // The frame of a command. Ports `encode` of src/command.rs; document 01, "Commands" and "Six refusals".
 ghost use Rattle.std.specs.Prelude.{◌≡◌, [], ◌∷◌, ◌+◌, ◌-◌, ◌*◌, ◌≤◌, length, drop};
-ghost use Rattle.encode.specs.Payload.{hopBytes, payloadOf};
+ghost use Rattle.encode.specs.Payload.{hop_bytes, payload_of};
 ghost use Rattle.packer.specs.Packing.{packed};
 ghost use Rattle.encode.specs.Encode.{encoded, EncodeIs};
 ghost use Rattle.encode.specs.Writes.{PutIs, place_of};
@@ -66,7 +66,7 @@ fn payload_len(left: usize, plain: usize) -> usize
 // written.
 fn pack_hops(hops: &[u8], left: usize, buf: &mut [u8], pos: usize) -> usize
     requires { left ≤ length hops.now }
-    ensures { PutIs (hopBytes (drop (length hops.now - left) hops.now)) buf.old pos result buf.new }
+    ensures { PutIs (hop_bytes (drop (length hops.now - left) hops.now)) buf.old pos result buf.new }
 {
     if left == 0 {
         return pos;
@@ -79,7 +79,7 @@ fn pack_hops(hops: &[u8], left: usize, buf: &mut [u8], pos: usize) -> usize
 }
 
 fn pack_payload(command: Command, hops: &[u8], buf: &mut [u8], pos: usize) -> usize
-    ensures { PutIs (payloadOf command hops.now) buf.old pos result buf.new }
+    ensures { PutIs (payload_of command hops.now) buf.old pos result buf.new }
 {
     let next = pack_hops(hops, hops.len(), buf, pos);
     place_after(command::pack_into(command, buf, next))

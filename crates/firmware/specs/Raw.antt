@@ -1,18 +1,18 @@
 -- A record and the raw values of its layout say the same, both ways: what document 02, W4, "write and read undo each other", needs of FwVersion and FwInfo.
 use Rattle.std.specs.Prelude.{◌≡◌}
 use Rattle.layout.specs.Layout.{RawsOf}
-use Rattle.layout.specs.Replies.{fwVersion, fwInfo}
+use Rattle.layout.specs.Replies.{fw_version_layout, fw_info_layout}
 use Rattle.layout.specs.Writing.{Fits}
-use Rattle.firmware.specs.Firmware.{rawVersionBy, versionRaws, versionFrom, infoBy, infoRaws, noRawFwVersion, noFwVersion}
+use Rattle.firmware.specs.Firmware.{raw_version_by, version_raws, version_from, info_by, info_raws, no_raw_fw_version, no_fw_version}
 use Rattle.firmware.specs.declared.RawFwVersion.{RawFwVersion}
 use Rattle.firmware.specs.declared.FwInfo.{FwInfo}
 
 pub record RawFirmware : Type 0 where
   -- a record from its own raw values
-  pub version-back : (v : RawFwVersion) → rawVersionBy (versionRaws v) ≡ v
-  pub info-back : (v : FwInfo) → infoBy (infoRaws v) ≡ v
+  pub version-back : (v : RawFwVersion) → raw_version_by (version_raws v) ≡ v
+  pub info-back : (v : FwInfo) → info_by (info_raws v) ≡ v
   -- and raw values from the record made of them, if they fit the layout: then there are as many as it has
-  pub version-raws : (r : RawsOf fwVersion) → Fits fwVersion r → versionRaws (rawVersionBy r) ≡ r
-  pub info-raws : (r : RawsOf fwInfo) → Fits fwInfo r → infoRaws (infoBy r) ≡ r
+  pub version-raws : (r : RawsOf fw_version_layout) → Fits fw_version_layout r → version_raws (raw_version_by r) ≡ r
+  pub info-raws : (r : RawsOf fw_info_layout) → Fits fw_info_layout r → info_raws (info_by r) ≡ r
   -- zeros stand for false and the kinds numbered 0
-  pub no-version : versionFrom noRawFwVersion ≡ noFwVersion
+  pub no-version : version_from no_raw_fw_version ≡ no_fw_version

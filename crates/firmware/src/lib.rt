@@ -4,11 +4,11 @@
 // followed; a good frame's never does (judge/specs/Good.antt).
 ghost use Rattle.std.specs.Prelude.{◌≡◌, [], ◌∷◌, replicate};
 ghost use Rattle.refusals.specs.Refusals.{consumed};
-ghost use Rattle.refusals.specs.Answers.{placeOr};
-ghost use Rattle.packer.specs.Numbers.{numbersAt};
+ghost use Rattle.refusals.specs.Answers.{place_or};
+ghost use Rattle.packer.specs.Numbers.{numbers_at};
 ghost use Rattle.layout.specs.Layout.{raws};
-ghost use Rattle.layout.specs.Replies.{fwVersionRest};
-ghost use Rattle.firmware.specs.Firmware.{rawVersionBy, versionFrom, rawVersionOf, fwVersionOf, fwInfoOf, noRawFwVersion, noFwVersion, noFwInfo};
+ghost use Rattle.layout.specs.Replies.{fw_version_rest};
+ghost use Rattle.firmware.specs.Firmware.{raw_version_by, version_from, raw_version_of, fw_version_of, fw_info_of, no_raw_fw_version, no_fw_version, no_fw_info};
 
 use codes::{HwType, QmlHw};
 use refusals::Consumed;
@@ -63,7 +63,7 @@ pub struct FwInfo {
 
 // The place after a name; after a refused one the end, so that nothing more is read.
 fn end_of(answer: Consumed, len: usize) -> usize
-    ensures { result ≡ placeOr len (consumed answer) }
+    ensures { result ≡ place_or len (consumed answer) }
 {
     match answer {
         Consumed::To(next) => next,
@@ -73,7 +73,7 @@ fn end_of(answer: Consumed, len: usize) -> usize
 
 // The first twelve bytes.
 fn uuid_of(part: &[u8]) -> [u8; 12]
-    ensures { result ≡ numbersAt (replicate 12 1) part.now 0 }
+    ensures { result ≡ numbers_at (replicate 12 1) part.now 0 }
 {
     let mut uuid = [0u8; 12];
     if part.len() < 12 {
@@ -91,7 +91,7 @@ fn raw_fw_version_after(
     hw_name: [u8; format::FW_VERSION_NAME_MAX_LEN],
     rest: &[u8],
 ) -> RawFwVersion
-    ensures { result ≡ rawVersionBy ((major ∷ minor ∷ []), (hw_name, raws fwVersionRest rest.now 0)) }
+    ensures { result ≡ raw_version_by ((major ∷ minor ∷ []), (hw_name, raws fw_version_rest rest.now 0)) }
 {
     let fw = names::unpack_c_string_39(rest, 20);
     let fw_name = fw.bytes;
@@ -118,7 +118,7 @@ fn raw_fw_version_after(
 
 // The part after hw_name is handed on from the payload's middle.
 pub fn unpack_raw_fw_version(payload: &[u8]) -> RawFwVersion
-    ensures { result ≡ rawVersionOf payload.now }
+    ensures { result ≡ raw_version_of payload.now }
 {
     let hw = names::unpack_c_string_39(payload, 3);
     let hw_name = hw.bytes;
@@ -131,7 +131,7 @@ pub fn unpack_raw_fw_version(payload: &[u8]) -> RawFwVersion
 
 // The flags and kinds that the carried bytes stand for; a true flag is a nonzero byte. The other fields as they are.
 pub fn fw_version_of(raw: RawFwVersion) -> FwVersion
-    ensures { result ≡ versionFrom raw }
+    ensures { result ≡ version_from raw }
 {
     let hw_name = raw.hw_name;
     let uuid = raw.uuid;
@@ -155,13 +155,13 @@ pub fn fw_version_of(raw: RawFwVersion) -> FwVersion
 }
 
 pub fn unpack_fw_version(payload: &[u8]) -> FwVersion
-    ensures { result ≡ fwVersionOf payload.now }
+    ensures { result ≡ fw_version_of payload.now }
 {
     fw_version_of(unpack_raw_fw_version(payload))
 }
 
 pub fn unpack_fw_info(payload: &[u8]) -> FwInfo
-    ensures { result ≡ fwInfoOf payload.now }
+    ensures { result ≡ fw_info_of payload.now }
 {
     let commit = names::unpack_c_string_47(payload, 4);
     let commit_hash = commit.bytes;
@@ -179,7 +179,7 @@ pub fn unpack_fw_info(payload: &[u8]) -> FwInfo
 }
 
 pub fn no_raw_fw_version() -> RawFwVersion
-    ensures { result ≡ noRawFwVersion }
+    ensures { result ≡ no_raw_fw_version }
 {
     RawFwVersion {
         major: 0,
@@ -200,7 +200,7 @@ pub fn no_raw_fw_version() -> RawFwVersion
 }
 
 pub fn no_fw_version() -> FwVersion
-    ensures { result ≡ noFwVersion }
+    ensures { result ≡ no_fw_version }
 {
     FwVersion {
         major: 0,
@@ -221,7 +221,7 @@ pub fn no_fw_version() -> FwVersion
 }
 
 pub fn no_fw_info() -> FwInfo
-    ensures { result ≡ noFwInfo }
+    ensures { result ≡ no_fw_info }
 {
     FwInfo {
         major: 0,

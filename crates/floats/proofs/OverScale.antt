@@ -6,7 +6,7 @@ use lib.Ieee.Exact.{HasValue}
 use lib.Ieee.Back.{round_whole}
 use lib.Ieee.Positive.{first_pos}
 use lib.Ieee.Scale.{round_same}
-use Rattle.floats.specs.Numbers.{overScale}
+use Rattle.floats.specs.Numbers.{over_scale}
 use Rattle.floats.specs.Near.{gap, Near, size, negative, nearness, ReadingNear}
 use Rattle.floats.proofs.Rounding.{round-near, times-le, within-mul, within-cancel}
 
@@ -90,8 +90,8 @@ zero-near : (S : ℕ) → gap (0 * 1 * S) (0 * 1) * nearness ≤ 0 * 1
 zero-near S = let x : 0 * S ≡ 0 = zero-mul S in omega arith
 
 -- ---- the claim, at any float that is the whole number S
-over-whole : (raw : ℤ) (z : Float) (S : ℕ) → size raw ≤ 2 ^ 31 → 0 < S → S ≤ 2 ^ 24 → HasValue z false S 1 → Near (overScale raw z) (negative raw) (size raw) S nearness
-unfolding overScale of_int
+over-whole : (raw : ℤ) (z : Float) (S : ℕ) → size raw ≤ 2 ^ 31 → 0 < S → S ≤ 2 ^ 24 → HasValue z false S 1 → Near (over_scale raw z) (negative raw) (size raw) S nearness
+unfolding over_scale of_int
 over-whole (pos zero) z S R P P' v = subst (λ (x : Float). Near x false 0 S nearness) (sym (zero-over z S P v)) (refl, zero-near S)
 over-whole (pos (suc n)) z S R P P' v = divided (round binary32 false (suc n) 1) z false (suc n) S (omega arith) R P P' v (first false (suc n) (omega arith) R)
 over-whole (negsuc n) z S R P P' v = divided (round binary32 true (suc n) 1) z true (suc n) S (omega arith) R P P' v (first true (suc n) (omega arith) R)
@@ -106,6 +106,6 @@ pub reading-near : (raw : ℤ) (scale : ℕ) → size raw ≤ 2 ^ 31 → 0 < sca
 reading-near raw scale R P P' = over-whole raw (of_int binary32 (pos scale)) scale R P P' (whole scale P')
 
 -- 0 over a scale is +0
-pub zero-reading : (scale : ℕ) → 0 < scale → scale ≤ 2 ^ 24 → overScale (pos 0) (of_int binary32 (pos scale)) ≡ of_bits binary32 0
-unfolding overScale of_int of_bits
+pub zero-reading : (scale : ℕ) → 0 < scale → scale ≤ 2 ^ 24 → over_scale (pos 0) (of_int binary32 (pos scale)) ≡ of_bits binary32 0
+unfolding over_scale of_int of_bits
 zero-reading scale P P' = zero-over (of_int binary32 (pos scale)) scale P (whole scale P')

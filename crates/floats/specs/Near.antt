@@ -2,7 +2,7 @@
 use Rattle.std.specs.Prelude.{◌≡◌, ℕ, suc, ◌+◌, ◌-◌, ◌*◌, ◌^◌, ◌≤◌, Bool, true, false, ℤ, pos, negsuc, Float}
 use Rattle.std.specs.Float.{nan, inf, fin, binary32}
 use Rattle.std.specs.Float.Ieee.{of_int, up, down}
-use Rattle.floats.specs.Numbers.{overScale}
+use Rattle.floats.specs.Numbers.{over_scale}
 
 -- how far a and b are apart: one of the two differences is cut off at 0
 abbrev pub gap : ℕ → ℕ → ℕ
@@ -31,4 +31,4 @@ nearness = 2 ^ 22
 
 -- "for raw r and scale s the reading is within |r|/s divided by 2^22 of r/s"
 abbrev pub ReadingNear : ℤ → ℕ → Type 0
-ReadingNear raw scale = Near (overScale raw (of_int binary32 (pos scale))) (negative raw) (size raw) scale nearness
+ReadingNear raw scale = Near (over_scale raw (of_int binary32 (pos scale))) (negative raw) (size raw) scale nearness

@@ -5,9 +5,9 @@ use Rattle.std.specs.Float.Ieee as Ieee
 use Rattle.std.specs.Float.{binary32}
 
 -- "Reading: the whole number becomes the nearest binary32, ties to even, then one division by the scale."
-unfoldable pub overScale : ℤ → Float → Float
-overScale raw scale = Ieee.div binary32 (Ieee.of_int binary32 raw) scale
+unfoldable pub over_scale : ℤ → Float → Float
+over_scale raw scale = Ieee.div binary32 (Ieee.of_int binary32 raw) scale
 
 -- "Writing: one binary32 multiplication, then toward zero, held at -2147483648 and 2147483647, NaN gives 0."
-unfoldable pub timesScale : Float → Float → ℤ
-timesScale value scale = Ieee.to_signed 31 (Ieee.mul binary32 value scale)
+unfoldable pub times_scale : Float → Float → ℤ
+times_scale value scale = Ieee.to_signed 31 (Ieee.mul binary32 value scale)

@@ -4,7 +4,7 @@
 ghost use Rattle.std.specs.Prelude.{◌≡◌};
 ghost use Rattle.std.specs.Float.Ieee as Ieee;
 ghost use Rattle.std.specs.Float.{binary32};
-ghost use Rattle.floats.specs.Numbers.{overScale, timesScale};
+ghost use Rattle.floats.specs.Numbers.{over_scale, times_scale};
 
 // The pattern of +infinity. Without its sign, a pattern is a NaN's exactly where it lies above.
 const INFINITY_BITS: u32 = 0x7f80_0000;
@@ -39,7 +39,7 @@ pub fn i32_to_f32(n: i32) -> f32
 
 // A field's raw number over its scale, as `unpack_f32` and `unpack_f16` read it.
 pub fn scaled(n: i32, scale: f32) -> f32
-    ensures { result ≡ overScale n scale }
+    ensures { result ≡ over_scale n scale }
 {
     i32_to_f32(n) / scale
 }
@@ -63,7 +63,7 @@ pub fn f32_to_i32(x: f32) -> i32
 
 // A value times its scale as the whole number that is sent, as `pack_f32` writes it.
 pub fn unscaled(value: f32, scale: f32) -> i32
-    ensures { result ≡ timesScale value scale }
+    ensures { result ≡ times_scale value scale }
 {
     f32_to_i32(value * scale)
 }

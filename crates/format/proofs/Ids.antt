@@ -4,7 +4,7 @@ use mathlib.Core.Bool.{cond}
 use mathlib.Core.List.{List, [], ◌∷◌}
 use Prim.Native.Nat.{ℕ}
 use lib.Dec.{eqb}
-use Rattle.format.specs.Format.{id_of, allIds}
+use Rattle.format.specs.Format.{id_of, all_ids}
 use Rattle.format.specs.declared.CommandId.{CommandId}
 use Rattle.format.specs.declared.CommandId.TheVariants as id
 
@@ -13,7 +13,7 @@ abbrev found : List CommandId → ℕ → CommandId
 found [] n = id.FwVersion
 found (command ∷ commands) n = cond (eqb (id_of command) n) command (found commands n)
 
-back : (command : CommandId) → found allIds (id_of command) ≡ command
+back : (command : CommandId) → found all_ids (id_of command) ≡ command
 back id.FwVersion = refl
 back id.GetValues = refl
 back id.SetDuty = refl
@@ -36,4 +36,4 @@ back id.FwInfo = refl
 back id.MotorEstop = refl
 
 pub ids-apart : (a b : CommandId) → id_of a ≡ id_of b → a ≡ b
-ids-apart a b same = sym (back a) ∙ ap (found allIds) same ∙ back b
+ids-apart a b same = sym (back a) ∙ ap (found all_ids) same ∙ back b

@@ -30,56 +30,56 @@ id_of FwInfo = 157
 id_of MotorEstop = 159
 
 -- all of them, in the order of `CommandId`
-abbrev pub allIds : List CommandId
-allIds =
+abbrev pub all_ids : List CommandId
+all_ids =
     FwVersion ∷ GetValues ∷ SetDuty ∷ SetCurrent ∷ SetCurrentBrake ∷ SetRpm ∷ SetPos ∷ SetHandbrake ∷ Reboot ∷ Alive ∷ ForwardCan ∷ GetValuesSelective
     ∷ GetValuesSetupSelective ∷ SetCurrentRel ∷ SetOdometer ∷ GetStats ∷ ResetStats ∷ Shutdown ∷ FwInfo ∷ MotorEstop ∷ []
 
 -- 2. Document 01, "The envelope": "A frame is 2, length n, n payload bytes, the checksum of the payload high byte first, then 3: n + 5 bytes."
 
-abbrev pub frameStart : ℕ
-frameStart = 2
+abbrev pub frame_start : ℕ
+frame_start = 2
 
-abbrev pub frameEnd : ℕ
-frameEnd = 3
+abbrev pub frame_end : ℕ
+frame_end = 3
 
 -- where the payload begins, behind the start byte and the length
-abbrev pub payloadAt : ℕ
-payloadAt = 2
+abbrev pub payload_at : ℕ
+payload_at = 2
 
 -- what a frame adds to its payload
-abbrev pub frameExtra : ℕ
-frameExtra = 5
+abbrev pub frame_extra : ℕ
+frame_extra = 5
 
 -- the most that a length byte can say
-abbrev pub payloadMax : ℕ
-payloadMax = 255
+abbrev pub payload_max : ℕ
+payload_max = 255
 
 -- 3. Document 01, "Reply fields": "Names hold 39 bytes in FwVersion, 47 in FwInfo"
 
-abbrev pub nameRoom : ℕ
-nameRoom = 39
+abbrev pub name_room : ℕ
+name_room = 39
 
-abbrev pub hashRoom : ℕ
-hashRoom = 47
+abbrev pub hash_room : ℕ
+hash_room = 47
 
 -- "bits 0 to 21" of both selective replies, "bits 0 to 10" of GetStats
-abbrev pub valuesBits : ℕ
-valuesBits = 22
+abbrev pub values_bit_count : ℕ
+values_bit_count = 22
 
-abbrev pub setupBits : ℕ
-setupBits = 22
+abbrev pub setup_bit_count : ℕ
+setup_bit_count = 22
 
-abbrev pub statsBits : ℕ
-statsBits = 11
+abbrev pub stats_bit_count : ℕ
+stats_bit_count = 11
 
 -- the mask of all ones: GetValues has every field
-abbrev pub allValues : ℕ
-allValues = 2 ^ valuesBits - 1
+abbrev pub all_values : ℕ
+all_values = 2 ^ values_bit_count - 1
 
 -- the rows of the longest field table, where "Bit 18 governs the three temp_mosfet1..3 together"
-abbrev pub tableRows : ℕ
-tableRows = 24
+abbrev pub table_rows : ℕ
+table_rows = 24
 
 -- 4. Document 01, "Port order and change of shape": "a state with its 512-byte buffer"
 
@@ -87,22 +87,22 @@ abbrev pub capacity : ℕ
 capacity = 512
 
 -- Document 02, W12: "There at most 109 bytes are unread", in a drained state
-abbrev pub drainedMost : ℕ
-drainedMost = 109
+abbrev pub drained_most : ℕ
+drained_most = 109
 
 -- the numbers of the code, in the order of its `named`
 abbrev pub numbers : List ℕ
 numbers =
-    map id_of allIds
-    ++ (frameStart
-    ∷ frameEnd
-    ∷ payloadAt
-    ∷ frameExtra
-    ∷ payloadMax
-    ∷ nameRoom
-    ∷ hashRoom
+    map id_of all_ids
+    ++ (frame_start
+    ∷ frame_end
+    ∷ payload_at
+    ∷ frame_extra
+    ∷ payload_max
+    ∷ name_room
+    ∷ hash_room
     ∷ capacity
-    ∷ drainedMost
-    ∷ tableRows
-    ∷ valuesBits ∷ setupBits ∷ statsBits ∷ allValues
+    ∷ drained_most
+    ∷ table_rows
+    ∷ values_bit_count ∷ setup_bit_count ∷ stats_bit_count ∷ all_values
     ∷ [])

@@ -6,10 +6,10 @@ use Prim.Native.Nat.{ℕ, ◌+◌, ◌≤◌, ◌<◌}
 use native.Mathlib.Omega.{arith}
 use lib.ListN.{length, get_or, take}
 use lib.Seq.{get_or-take}
-use Rattle.refusals.specs.Refusals.{ok, refused, incompleteData, invalidFrame}
+use Rattle.refusals.specs.Refusals.{ok, refused, incomplete_data, invalid_frame}
 use Rattle.refusals.proofs.Answers.{Known, known-refused}
-use Rattle.frame.specs.Frame.{short, frameSize, declared, Framed}
-use Rattle.frame.specs.Opening.{finishOf, openOf}
+use Rattle.frame.specs.Frame.{short, frame_size, declared, Framed}
+use Rattle.frame.specs.Opening.{finish_of, open_of}
 use Rattle.frame.specs.Opened.{Missing, OpenLaws}
 use Rattle.frame.proofs.Cases.{by_order, by-equality}
 use Rattle.frame.proofs.Places.{declared-is, carried-is, payload-is, end_is}
@@ -38,33 +38,33 @@ module _ (s : List ℕ) where
 
   -- ---- the ways out of `open`
 
-  pub no_start : length s ≤ 0 → refused incompleteData ≡ openOf s
-  unfolding openOf
-  no_start past = head.no_start s (finishOf s) past
+  pub no_start : length s ≤ 0 → refused incomplete_data ≡ open_of s
+  unfolding open_of
+  no_start past = head.no_start s (finish_of s) past
 
-  pub start-wrong : 0 < length s → (get_or s 0 0 ≡ 2 → ⊥) → refused invalidFrame ≡ openOf s
-  unfolding openOf
-  start-wrong there differs = head.start-wrong s (finishOf s) there differs
+  pub start-wrong : 0 < length s → (get_or s 0 0 ≡ 2 → ⊥) → refused invalid_frame ≡ open_of s
+  unfolding open_of
+  start-wrong there differs = head.start-wrong s (finish_of s) there differs
 
-  pub no_length : get_or s 0 0 ≡ 2 → 0 < length s → length s ≤ 1 → refused incompleteData ≡ openOf s
-  unfolding openOf
-  no_length start there past = head.no_length s (finishOf s) start there past
+  pub no_length : get_or s 0 0 ≡ 2 → 0 < length s → length s ≤ 1 → refused incomplete_data ≡ open_of s
+  unfolding open_of
+  no_length start there past = head.no_length s (finish_of s) start there past
 
-  pub head-right : get_or s 0 0 ≡ 2 → 1 < length s → openOf s ≡ finishOf s (get_or s 1 0)
-  unfolding openOf
-  head-right start there = head.head-right s (finishOf s) start there
+  pub head-right : get_or s 0 0 ≡ 2 → 1 < length s → open_of s ≡ finish_of s (get_or s 1 0)
+  unfolding open_of
+  head-right start there = head.head-right s (finish_of s) start there
 
-  open-ended : get_or s 0 0 ≡ 2 → Ended s (get_or s 1 0) → openOf s ≡ ok (get_or s 1 0 + 5)
+  open-ended : get_or s 0 0 ≡ 2 → Ended s (get_or s 1 0) → open_of s ≡ ok (get_or s 1 0 + 5)
   open-ended start ended = head-right start (omega (arith, ended.there)) ∙ ended-finish s (get_or s 1 0) ended
 
-  open-frame : (count : ℕ) → openOf s ≡ ok count → (get_or s 0 0 ≡ 2) × (count ≡ get_or s 1 0 + 5) × Ended s (get_or s 1 0)
-  unfolding openOf
+  open-frame : (count : ℕ) → open_of s ≡ ok count → (get_or s 0 0 ≡ 2) × (count ≡ get_or s 1 0 + 5) × Ended s (get_or s 1 0)
+  unfolding open_of
   open-frame count e =
-      let given = head.head-given s (finishOf s) count e in
+      let given = head.head-given s (finish_of s) count e in
       let ended = finish-ended s (get_or s 1 0) count given.1 in
       (given.0, ended.0, ended.1)
 
-  opened-iff : (count : ℕ) → (openOf s ≡ ok count) ↔ (Framed short s × (count ≡ frameSize short (declared short s)))
+  opened-iff : (count : ℕ) → (open_of s ≡ ok count) ↔ (Framed short s × (count ≡ frame_size short (declared short s)))
   opened-iff count = (
     λ e. let frame = open-frame count e in (ended-framed frame.0 frame.2, omega (arith, declared-is s, frame.1)),
     λ framed. open-ended framed.0.start (framed-ended framed.0) ∙ ap ok (omega (arith, declared-is s, framed.1)),
@@ -72,7 +72,7 @@ module _ (s : List ℕ) where
 
   -- ---- when it waits
 
-  missing-waits : Missing s → openOf s ≡ refused incompleteData
+  missing-waits : Missing s → open_of s ≡ refused incomplete_data
   missing-waits =
       ⊎_elim (λ none. sym (no_start (omega (arith, none))))
       (λ some.
@@ -82,24 +82,24 @@ module _ (s : List ℕ) where
       (λ past. sym (no_length some.0 one past)))
       (λ past. sym (no_start past)))
 
-  waits-missing : openOf s ≡ refused incompleteData → Missing s
+  waits-missing : open_of s ≡ refused incomplete_data → Missing s
   waits-missing e =
       by_order 0 (length s)
       (λ one. by-equality (get_or s 0 0) 2
-      (λ start. by_order (length s) (frameSize short (declared short s))
+      (λ start. by_order (length s) (frame_size short (declared short s))
       (λ less. inr (start, less))
       (λ there. absurd (known start there e)))
-      (λ differs. absurd (known-refused invalidFrame invalid-differs (start-wrong one differs ∙ e))))
+      (λ differs. absurd (known-refused invalid_frame invalid-differs (start-wrong one differs ∙ e))))
       (λ past. inl (omega arith))
     where
-      known : get_or s 0 0 ≡ 2 → frameSize short (declared short s) ≤ length s → Known (openOf s)
+      known : get_or s 0 0 ≡ 2 → frame_size short (declared short s) ≤ length s → Known (open_of s)
       known start there =
           let n = declared-is s in
           rw (head-right start (omega arith)) (finish-known s (get_or s 1 0) (omega arith))
 
 -- ---- which bytes it looks at
 
-open_own : (s : List ℕ) (count : ℕ) → openOf s ≡ ok count → openOf (take count s) ≡ ok count
+open_own : (s : List ℕ) (count : ℕ) → open_of s ≡ ok count → open_of (take count s) ≡ ok count
 open_own s count e =
     let frame = open-frame s count e in
     let n = get_or s 1 0 in
@@ -108,9 +108,9 @@ open_own s count e =
     let own : Ended (take (n + 5) s) (get_or (take (n + 5) s) 1 0) = rw same (ended-own s n frame.2) in
     rw frame.1 (open-ended (take (n + 5) s) start own ∙ ap (λ (k : ℕ). ok (k + 5)) same)
 
-open-prefix : (xs ys : List ℕ) → (openOf xs ≡ refused incompleteData → ⊥) → openOf (xs ++ ys) ≡ openOf xs
-unfolding openOf
-open-prefix xs ys = head.head-kept xs ys (finishOf xs) (finishOf (xs ++ ys)) (finish-kept xs ys)
+open-prefix : (xs ys : List ℕ) → (open_of xs ≡ refused incomplete_data → ⊥) → open_of (xs ++ ys) ≡ open_of xs
+unfolding open_of
+open-prefix xs ys = head.head-kept xs ys (finish_of xs) (finish_of (xs ++ ys)) (finish-kept xs ys)
 
 pub open-laws : OpenLaws
 open-laws =

@@ -8,13 +8,13 @@ use lib.Dec.{ltb}
 use lib.ListN.{length, get_or, take, drop, length-drop, get_or-append}
 use lib.Seq.{take-append-le, drop-append-le, take-take, get_or-drop}
 use borrow.Author.Tests.{lt-ltb, le-ltb, ltb-true}
-use Rattle.refusals.specs.Refusals.{ok, refused, incompleteData}
+use Rattle.refusals.specs.Refusals.{ok, refused, incomplete_data}
 use Rattle.refusals.proofs.Answers.{Known, Kept, known-given}
-use Rattle.packer.specs.Numbers.{beAt}
+use Rattle.packer.specs.Numbers.{be_at}
 use Rattle.packer.specs.Nearness.{Bytes}
 use Rattle.packer.proofs.Kept.{read_kept, test-given, more-there}
-use Rattle.frame.specs.Frame.{short, declared, payloadIn, carried, endByte}
-use Rattle.frame.specs.Opening.{byte_at, payloadPart}
+use Rattle.frame.specs.Frame.{short, declared, payload_in, carried, end_byte}
+use Rattle.frame.specs.Opening.{byte_at, payload_part}
 
 -- ---- a byte
 
@@ -22,7 +22,7 @@ pub byte-got : (s : List ℕ) (at : ℕ) → at < length s → byte_at s at ≡ 
 unfolding byte_at
 byte-got s at there = rw (lt-ltb at (length s) there)
 
-pub byte-lacking : (s : List ℕ) (at : ℕ) → length s ≤ at → byte_at s at ≡ refused incompleteData
+pub byte-lacking : (s : List ℕ) (at : ℕ) → length s ≤ at → byte_at s at ≡ refused incomplete_data
 unfolding byte_at
 byte-lacking s at past = rw (le-ltb at (length s) past)
 
@@ -42,16 +42,16 @@ byte-kept xs ys at =
 
 -- ---- the payload
 
-pub payload-kept : (n : ℕ) (xs ys : List ℕ) → n + 2 ≤ length xs → payloadPart n (xs ++ ys) ≡ payloadPart n xs
-unfolding payloadPart
+pub payload-kept : (n : ℕ) (xs ys : List ℕ) → n + 2 ≤ length xs → payload_part n (xs ++ ys) ≡ payload_part n xs
+unfolding payload_part
 payload-kept n xs ys there =
     let two : 2 ≤ length xs = omega arith in
     let payload : n ≤ length (drop 2 xs) = simp length-drop (omega arith) in
     rw (drop-append-le 2 xs ys two, take-append-le n (drop 2 xs) ys payload)
 
 -- it lies in the frame's own bytes
-pub payload-own : (n end : ℕ) (s : List ℕ) → n + 2 ≤ end → payloadPart n (take end s) ≡ payloadPart n s
-unfolding payloadPart
+pub payload-own : (n end : ℕ) (s : List ℕ) → n + 2 ≤ end → payload_part n (take end s) ≡ payload_part n s
+unfolding payload_part
 payload-own n zero s before = absurd (omega arith)
 payload-own n (suc zero) s before = absurd (omega arith)
 payload-own n (suc (suc end)) [] before = refl
@@ -69,25 +69,25 @@ taken-byte (suc n) (first ∷ s) (suc at) b = taken-byte n s at (λ k. b (suc k)
 pub bytes_drop : (n : ℕ) (s : List ℕ) → Bytes s → Bytes (drop n s)
 bytes_drop n s b at = rw (get_or-drop n s at 0) (b (n + at))
 
-pub payload-bytes : (s : List ℕ) → Bytes s → Bytes (payloadIn short s)
-unfolding payloadIn
+pub payload-bytes : (s : List ℕ) → Bytes s → Bytes (payload_in short s)
+unfolding payload_in
 payload-bytes s b at = taken-byte (declared short s) (drop 2 s) at (bytes_drop 2 s b)
 
 -- ---- the parts of the short frame
 
 module _ (s : List ℕ) where
   pub declared-is : declared short s ≡ get_or s 1 0
-  unfolding declared beAt
+  unfolding declared be_at
   declared-is = omega arith
 
-  pub carried-is : carried short s ≡ beAt s (get_or s 1 0 + 2) 2
+  pub carried-is : carried short s ≡ be_at s (get_or s 1 0 + 2) 2
   unfolding carried
-  carried-is = ap (λ (at : ℕ). beAt s at 2) (omega (arith, declared-is))
+  carried-is = ap (λ (at : ℕ). be_at s at 2) (omega (arith, declared-is))
 
-  pub payload-is : payloadIn short s ≡ payloadPart (get_or s 1 0) s
-  unfolding payloadIn payloadPart
+  pub payload-is : payload_in short s ≡ payload_part (get_or s 1 0) s
+  unfolding payload_in payload_part
   payload-is = ap (λ (n : ℕ). take n (drop 2 s)) declared-is
 
-  pub end_is : endByte short s ≡ get_or s (get_or s 1 0 + 4) 0
-  unfolding endByte
+  pub end_is : end_byte short s ≡ get_or s (get_or s 1 0 + 4) 0
+  unfolding end_byte
   end_is = ap (λ (at : ℕ). get_or s at 0) (omega (arith, declared-is))

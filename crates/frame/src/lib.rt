@@ -3,7 +3,7 @@
 // of a command and calls `wrap`. Document 01, "The envelope"; document 02, W2.
 ghost use Rattle.std.specs.Prelude.{◌≡◌, ◌+◌, ◌≤◌, length};
 ghost use Rattle.refusals.specs.Refusals.{consumed};
-ghost use Rattle.frame.specs.Opening.{judgeSumOf, finishOf, openOf};
+ghost use Rattle.frame.specs.Opening.{judge_sum_of, finish_of, open_of};
 ghost use Rattle.frame.specs.Wrapping.{WrapIs};
 
 use packer::{Packed, UnpackedU16};
@@ -12,7 +12,7 @@ use refusals::{Consumed, DecodeError, EncodeError};
 // The sum is worked out last, and of a frame that ends well only.
 fn judge_sum(buf: &[u8], n: usize, expected: u16) -> Consumed
     requires { n + 5 ≤ length buf.now }
-    ensures { consumed result ≡ judgeSumOf buf.now n expected }
+    ensures { consumed result ≡ judge_sum_of buf.now n expected }
 {
     let end = n + format::PAYLOAD_AT;
     let count = n + format::FRAME_EXTRA;
@@ -25,7 +25,7 @@ fn judge_sum(buf: &[u8], n: usize, expected: u16) -> Consumed
 
 // What follows the `n` payload bytes of a frame: where the frame ends, or why it is none.
 pub fn finish(buf: &[u8], n: u8) -> Consumed
-    ensures { consumed result ≡ finishOf buf.now n }
+    ensures { consumed result ≡ finish_of buf.now n }
 {
     let len = n as usize;
     match packer::unpack_u16(buf, len + format::PAYLOAD_AT) {
@@ -45,7 +45,7 @@ pub fn finish(buf: &[u8], n: u8) -> Consumed
 // The frame at the front of `buf`, whatever its payload holds: where it ends, or why there is none. Byte 1 is the
 // length of the payload, which begins at byte 2.
 pub fn open(buf: &[u8]) -> Consumed
-    ensures { consumed result ≡ openOf buf.now }
+    ensures { consumed result ≡ open_of buf.now }
 {
     if buf.len() <= 0 {
         return Consumed::Refused(DecodeError::IncompleteData);

@@ -9,7 +9,7 @@ use Rattle.refusals.specs.Refusals.{ok}
 use Rattle.names.proofs.Prefix.{drop-take}
 use Rattle.frame.proofs.Endings.{ended-own}
 use Rattle.layout.proofs.Replies.{reads-fields}
-use Rattle.judge.specs.Judge.{judgeOf}
+use Rattle.judge.specs.Judge.{judge_of}
 use Rattle.judge.proofs.Parts.{FrameParts, judge-good, good-judged}
 use Rattle.judge.proofs.Sized.{judge-sized}
 
@@ -26,7 +26,7 @@ module _ (s : List ℕ) (n : ℕ) (good : FrameParts s n) where
       }
 
 -- whatever follows a good frame, the frame alone is judged the same
-pub judge-own-bytes : (xs : List ℕ) (c : ℕ) → judgeOf xs ≡ ok c → judgeOf (take c xs) ≡ ok c
+pub judge-own-bytes : (xs : List ℕ) (c : ℕ) → judge_of xs ≡ ok c → judge_of (take c xs) ≡ ok c
 judge-own-bytes xs c e =
     let sized = judge-sized xs c e in
     let count : c - 5 + 5 ≡ c = omega arith in

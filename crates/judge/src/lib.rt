@@ -3,14 +3,14 @@
 // src/command.rs; document 01, "The envelope".
 ghost use Rattle.std.specs.Prelude.{◌≡◌};
 ghost use Rattle.refusals.specs.Refusals.{consumed};
-ghost use Rattle.judge.specs.Judge.{judgeOf};
+ghost use Rattle.judge.specs.Judge.{judge_of};
 
 use refusals::{Consumed, DecodeError};
 
 // What the bytes from the first on are: a good frame, up to the place that is answered, or the refusal of
 // `decode`. A byte that starts no frame costs one comparison: it is judged before anything is called.
 pub fn judge(buf: &[u8]) -> Consumed
-    ensures { consumed result ≡ judgeOf buf.now }
+    ensures { consumed result ≡ judge_of buf.now }
 {
     if buf.len() <= 0 {
         return Consumed::Refused(DecodeError::IncompleteData);

@@ -6,19 +6,19 @@ use native.Mathlib.Omega.{arith}
 use lib.ListN.{length, take, drop}
 use lib.Seq.{length-take-le}
 use Rattle.refusals.specs.Refusals.{ok}
-use Rattle.refusals.specs.Answers.{placeOr}
+use Rattle.refusals.specs.Answers.{place_or}
 use Rattle.refusals.proofs.Answers.{given-same, given-then}
-use Rattle.packer.specs.Numbers.{beAt, total, numbersAt, digits}
+use Rattle.packer.specs.Numbers.{be_at, total, numbers_at, digits}
 use Rattle.packer.specs.Nearness.{Bytes}
 use Rattle.packer.specs.Standing.{Stands}
 use Rattle.packer.proofs.Places.{bytes-got}
 use Rattle.packer.proofs.Kept.{bytes-given}
 use Rattle.packer.proofs.Standing.{nothing, joined, first, second, in-front, part}
 use Rattle.packer.proofs.Digits.{numbers-below, numbers-here, numbers-back, below_total}
-use Rattle.names.specs.Names.{nulWithin, name_at, sentOf}
+use Rattle.names.specs.Names.{nul_within, name_at, sent_of}
 use Rattle.names.proofs.Places.{given-ends}
 use Rattle.names.proofs.Sent.{sent-given, name-fits, name-here, sent-ends, sent_back}
-use Rattle.layout.specs.Layout.{Item, numbers, name, masked, maskWidths, Layout, Reader, extentOf, rawOf, extent, RawsOf, raws, longest}
+use Rattle.layout.specs.Layout.{Item, numbers, name, masked, mask_widths, Layout, Reader, extent_of, raw_of, extent, RawsOf, raws, longest}
 use Rattle.layout.specs.Writing.{written_of, FitsOf, written, Fits, BothWays}
 use Rattle.layout.proofs.Readers.{reads}
 use Rattle.layout.proofs.Raws.{after-given}
@@ -33,8 +33,8 @@ record Both {R : Type 0} (extent : Reader) (raw : List ℕ → ℕ → R) (writt
   back : (r : R) (s : List ℕ) (at end : ℕ) → Fits r → Stands (written r) s at end → raw s at ≡ r
 
 -- numbers
-both-numbers : (ws : List ℕ) → Both (extentOf (numbers ws)) (numbersAt ws) (digits ws) (FitsOf (numbers ws))
-unfolding extentOf
+both-numbers : (ws : List ℕ) → Both (extent_of (numbers ws)) (numbers_at ws) (digits ws) (FitsOf (numbers ws))
+unfolding extent_of
 both-numbers ws =
     record {
       fits = λ s at end b e. numbers-below ws s at b;
@@ -47,25 +47,25 @@ both-numbers ws =
 module _ (room : ℕ) (s : List ℕ) (at end : ℕ) where
   -- one that was read is written as it stood
   stands-name
-      : nulWithin room (drop at s) at ≡ ok end → Stands (take (placeOr 0 (sentOf room (name_at room s at).bytes)) (name_at room s at).bytes) s at end
+      : nul_within room (drop at s) at ≡ ok end → Stands (take (place_or 0 (sent_of room (name_at room s at).bytes)) (name_at room s at).bytes) s at end
   stands-name e =
       let lies = given-ends room s at end e in
       let stops : at + (end - at) ≡ end = omega arith in
       rw ((name-fits room s at end e).1, name-here room s at end e) (rw stops at (part s at (end - at) (omega arith)))
 
   -- one that is sent ends where its bytes do
-  module _ (held : List ℕ) (next : ℕ) (sent : sentOf room held ≡ ok next) (p : Stands (take (placeOr 0 (sentOf room held)) held) s at end) where
+  module _ (held : List ℕ) (next : ℕ) (sent : sent_of room held ≡ ok next) (p : Stands (take (place_or 0 (sent_of room held)) held) s at end) where
     through : Stands (take next held) s at end
     through = rw sent at p
 
-    ends-name : nulWithin room (drop at s) at ≡ ok end
+    ends-name : nul_within room (drop at s) at ≡ ok end
     ends-name =
         let size = length-take-le next held (sent-given room held next sent).inside in
         let q = through in
         sent-ends room held next sent s (drop end s) at through.here ∙ ap ok (omega arith)
 
-both-name : (room : ℕ) → Both (extentOf (name room)) (rawOf (name room)) (written_of (name room)) (FitsOf (name room))
-unfolding extentOf rawOf written_of
+both-name : (room : ℕ) → Both (extent_of (name room)) (raw_of (name room)) (written_of (name room)) (FitsOf (name room))
+unfolding extent_of raw_of written_of
 both-name room =
     record {
       fits = λ s at end b e. let held = name-fits room s at end e in (held.0, (end - at, held.1));
@@ -83,19 +83,19 @@ tails : {m n : ℕ} {ms ns : List ℕ} → m ∷ ms ≡ n ∷ ns → ms ≡ ns
 tails e = cc
 
 -- a mask and its fields are numbers, of which the first tells the widths
-both-item : (i : Item) → Both (extentOf i) (rawOf i) (written_of i) (FitsOf i)
-unfolding extentOf rawOf written_of numbersAt
+both-item : (i : Item) → Both (extent_of i) (raw_of i) (written_of i) (FitsOf i)
+unfolding extent_of raw_of written_of numbers_at
 both-item (numbers ws) = both-numbers ws
 both-item (name room) = both-name room
 both-item (masked table) =
     record {
-      fits = λ s at end b e. numbers-below (maskWidths (beAt s at 4) table) s at b;
-      stands = λ s at end b inside e. (both-numbers (maskWidths (beAt s at 4) table)).stands s at end b inside e;
+      fits = λ s at end b e. numbers-below (mask_widths (be_at s at 4) table) s at b;
+      stands = λ s at end b inside e. (both-numbers (mask_widths (be_at s at 4) table)).stands s at end b inside e;
       ends = λ raw s at end f p.
-          let all = numbers-back (maskWidths raw.0 table) (raw.0 ∷ raw.1) f p in
-          rw (heads all) ((both-numbers (maskWidths raw.0 table)).ends (raw.0 ∷ raw.1) s at end f p);
+          let all = numbers-back (mask_widths raw.0 table) (raw.0 ∷ raw.1) f p in
+          rw (heads all) ((both-numbers (mask_widths raw.0 table)).ends (raw.0 ∷ raw.1) s at end f p);
       back = λ raw s at end f p.
-          let all = numbers-back (maskWidths raw.0 table) (raw.0 ∷ raw.1) f p in
+          let all = numbers-back (mask_widths raw.0 table) (raw.0 ∷ raw.1) f p in
           rw (heads all) (ap (λ (ns : List ℕ). (raw.0, ns)) (tails all));
     }
 
@@ -107,10 +107,10 @@ both-then i l q =
     let p = both-item i in
     record {
       fits = λ s at end b e.
-          let two = given-then (extentOf i s at) (extent l s) end e in
+          let two = given-then (extent_of i s at) (extent l s) end e in
           (p.fits s at two.value b two.first, rw (after-given i s at two.value two.first) (q.fits s two.value end b two.second));
       stands = λ s at end b inside e.
-          let two = given-then (extentOf i s at) (extent l s) end e in
+          let two = given-then (extent_of i s at) (extent l s) end e in
           let here = p.stands s at two.value b inside two.first in
           rw (after-given i s at two.value two.first) (joined here (q.stands s two.value end b here.inside two.second));
       ends = λ r s at end f st.

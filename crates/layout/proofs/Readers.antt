@@ -9,8 +9,8 @@ use borrow.Author.Tests.{le-leb, leb-true}
 use Rattle.refusals.specs.Refusals.{ok}
 use Rattle.refusals.specs.Answers.{and_then}
 use Rattle.refusals.proofs.Answers.{Known, known-given, known-then, Kept, Kept-then, given-then}
-use Rattle.packer.specs.Numbers.{beAt, total}
-use Rattle.packer.specs.Unpacking.{consumeAt}
+use Rattle.packer.specs.Numbers.{be_at, total}
+use Rattle.packer.specs.Unpacking.{consume_at}
 use Rattle.packer.proofs.Places.{bytes-got}
 use Rattle.packer.proofs.Kept.{read_kept, more-there, own-there, bytes-given, bytes-kept}
 use Rattle.packer.proofs.Numbers.{number-prefix, number-own}
@@ -18,7 +18,7 @@ use Rattle.names.proofs.Places.{given-ends}
 use Rattle.names.proofs.Prefix.{nul-prefix, nul-enough, drop-joined, drop-take, nul-own}
 use Rattle.tables.specs.Tables.{Field, widths, most}
 use Rattle.tables.proofs.Widths.{widths-most}
-use Rattle.layout.specs.Layout.{Item, numbers, name, masked, maskWidths, Layout, Reader, extentOf, extent, longestOf, longest}
+use Rattle.layout.specs.Layout.{Item, numbers, name, masked, mask_widths, Layout, Reader, extent_of, extent, longest_of, longest}
 
 -- a reader of at most `width` bytes
 pub record Lawful (width : ℕ) (r : Reader) : Type 0 where
@@ -68,7 +68,7 @@ reads_then {w} {v} {r} {q} p o =
     }
 
 -- so many bytes
-reads_bytes : (w : ℕ) → Lawful w (consumeAt w)
+reads_bytes : (w : ℕ) → Lawful w (consume_at w)
 reads_bytes w =
     record {
       same = bytes-kept w;
@@ -81,8 +81,8 @@ reads_bytes w =
     }
 
 -- a name
-reads-name : (room : ℕ) → Lawful room (extentOf (name room))
-unfolding extentOf
+reads-name : (room : ℕ) → Lawful room (extent_of (name room))
+unfolding extent_of
 reads-name room =
     record {
       same = λ xs ys at known. rw (drop-joined at xs ys) (nul-prefix room (drop at xs) (drop (at - length xs) ys) at known);
@@ -95,41 +95,41 @@ reads-name room =
 -- a mask and the fields that it has
 module _ (table : List Field) where
   abbrev span : List ℕ → ℕ → ℕ
-  span s at = total (maskWidths (beAt s at 4) table)
+  span s at = total (mask_widths (be_at s at 4) table)
 
-  span-mask : (s : List ℕ) (at : ℕ) → span s at ≡ 4 + total (widths (beAt s at 4) table)
+  span-mask : (s : List ℕ) (at : ℕ) → span s at ≡ 4 + total (widths (be_at s at 4) table)
   unfolding total
   span-mask s at = refl
 
-  masked-kept : (xs ys : List ℕ) (at : ℕ) → Kept (consumeAt (span xs at) xs at) (consumeAt (span (xs ++ ys) at) (xs ++ ys) at)
-  unfolding consumeAt
+  masked-kept : (xs ys : List ℕ) (at : ℕ) → Kept (consume_at (span xs at) xs at) (consume_at (span (xs ++ ys) at) (xs ++ ys) at)
+  unfolding consume_at
   masked-kept xs ys at =
       read_kept (leb (at + span xs at) (length xs)) (leb (at + span (xs ++ ys) at) (length (xs ++ ys))) (at + span xs at) (at + span (xs ++ ys) at)
       (λ t.
       let there = leb-true (at + span xs at) (length xs) t in
-      let mask : beAt (xs ++ ys) at 4 ≡ beAt xs at 4 = number-prefix xs ys at 4 (omega (arith, span-mask xs at)) in
+      let mask : be_at (xs ++ ys) at 4 ≡ be_at xs at 4 = number-prefix xs ys at 4 (omega (arith, span-mask xs at)) in
       rw mask (le-leb (at + span xs at) (length (xs ++ ys)) (more-there (at + span xs at) xs ys there), refl))
 
-  reads-masked : Lawful (4 + most table) (extentOf (masked table))
-  unfolding extentOf
+  reads-masked : Lawful (4 + most table) (extent_of (masked table))
+  unfolding extent_of
   reads-masked =
       record {
         same = masked-kept;
         enough = λ xs at there.
-            let fields = widths-most table (beAt xs at 4) in
+            let fields = widths-most table (be_at xs at 4) in
             (reads_bytes (span xs at)).enough xs at (omega (arith, span-mask xs at));
         onward = λ xs at next e. (reads_bytes (span xs at)).onward xs at next e;
         near = λ xs at next e.
-            let fields = widths-most table (beAt xs at 4) in
+            let fields = widths-most table (be_at xs at 4) in
             omega (arith, span-mask xs at, (reads_bytes (span xs at)).near xs at next e);
         own = λ xs at next end before e.
             let read = bytes-given (span xs at) xs at next e in
-            let mask : beAt (take end xs) at 4 ≡ beAt xs at 4 = number-own 4 xs at end (omega (arith, span-mask xs at)) in
+            let mask : be_at (take end xs) at 4 ≡ be_at xs at 4 = number-own 4 xs at end (omega (arith, span-mask xs at)) in
             rw mask ((reads_bytes (span xs at)).own xs at next end before e);
       }
 
-pub reads-item : (i : Item) → Lawful (longestOf i) (extentOf i)
-unfolding extentOf longestOf
+pub reads-item : (i : Item) → Lawful (longest_of i) (extent_of i)
+unfolding extent_of longest_of
 reads-item (numbers ws) = reads_bytes (total ws)
 reads-item (name room) = reads-name room
 reads-item (masked table) = reads-masked table

@@ -2,24 +2,24 @@
 -- bit is set are written": a field whose bit is not set has width 0 (`widths`), and so no bytes.
 use Rattle.std.specs.Prelude.{◌≡◌, List, [], ◌∷◌, ◌++◌, ℕ, ◌≤◌, length, take}
 use Rattle.refusals.specs.Refusals.{ok}
-use Rattle.refusals.specs.Answers.{placeOr}
+use Rattle.refusals.specs.Answers.{place_or}
 use Rattle.packer.specs.Numbers.{digits, Below}
 use Rattle.packer.specs.Nearness.{Bytes}
 use Rattle.packer.specs.Standing.{Stands}
-use Rattle.names.specs.Names.{sentOf}
-use Rattle.layout.specs.Layout.{Item, numbers, name, masked, Layout, maskWidths, extent, RawOf, RawsOf, raws}
+use Rattle.names.specs.Names.{sent_of}
+use Rattle.layout.specs.Layout.{Item, numbers, name, masked, Layout, mask_widths, extent, RawOf, RawsOf, raws}
 
 -- the bytes of an item: of a name those up to its NUL, without the zeros behind it
 unfoldable pub written_of : (i : Item) → RawOf i → List ℕ
 written_of (numbers ws) ns = digits ws ns
-written_of (name room) held = take (placeOr 0 (sentOf room held)) held
-written_of (masked table) raw = digits (maskWidths raw.0 table) (raw.0 ∷ raw.1)
+written_of (name room) held = take (place_or 0 (sent_of room held)) held
+written_of (masked table) raw = digits (mask_widths raw.0 table) (raw.0 ∷ raw.1)
 
 -- a raw value that can be written and read back: each number has bytes enough, an absent field is zero, a name is not refused
 abbrev pub FitsOf : (i : Item) → RawOf i → Type 0
 FitsOf (numbers ws) ns = Below ws ns
-FitsOf (name room) held = (length held ≡ room) × ((next : ℕ) × (sentOf room held ≡ ok next))
-FitsOf (masked table) raw = Below (maskWidths raw.0 table) (raw.0 ∷ raw.1)
+FitsOf (name room) held = (length held ≡ room) × ((next : ℕ) × (sent_of room held ≡ ok next))
+FitsOf (masked table) raw = Below (mask_widths raw.0 table) (raw.0 ∷ raw.1)
 
 -- the same of a list of items, one after the other
 

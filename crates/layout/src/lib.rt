@@ -3,10 +3,10 @@
 ghost use Rattle.std.specs.Prelude.{◌≡◌, [], ◌∷◌, drop};
 ghost use Rattle.refusals.specs.Refusals.{consumed};
 ghost use Rattle.refusals.specs.Answers.{and_then};
-ghost use Rattle.packer.specs.Unpacking.{consumeAt};
+ghost use Rattle.packer.specs.Unpacking.{consume_at};
 ghost use Rattle.tables.specs.Sorts.{table_of};
-ghost use Rattle.layout.specs.Layout.{name, masked, extentOf, extent};
-ghost use Rattle.layout.specs.Replies.{getValues, fwVersion, fwInfo, fieldsEnd};
+ghost use Rattle.layout.specs.Layout.{name, masked, extent_of, extent};
+ghost use Rattle.layout.specs.Replies.{get_values, fw_version_layout, fw_info_layout, fields_end};
 
 use packer::UnpackedU32;
 use refusals::{Consumed, DecodeError};
@@ -14,7 +14,7 @@ use tables::Sort;
 
 // The place `width` bytes on, where they are there. A refusal so far stays, as after the Rust's `?`.
 fn skip(part: &[u8], so_far: Consumed, width: usize) -> Consumed
-    ensures { consumed result ≡ and_then (consumed so_far) (consumeAt width part.now) }
+    ensures { consumed result ≡ and_then (consumed so_far) (consume_at width part.now) }
 {
     match so_far {
         Consumed::To(at) => {
@@ -33,7 +33,7 @@ fn skip(part: &[u8], so_far: Consumed, width: usize) -> Consumed
 
 // The place after a name, likewise.
 fn skip_name(part: &[u8], so_far: Consumed, room: usize) -> Consumed
-    ensures { consumed result ≡ and_then (consumed so_far) (extentOf (name room) part.now) }
+    ensures { consumed result ≡ and_then (consumed so_far) (extent_of (name room) part.now) }
 {
     match so_far {
         Consumed::To(at) => names::find_nul(part, at, room),
@@ -43,7 +43,7 @@ fn skip_name(part: &[u8], so_far: Consumed, room: usize) -> Consumed
 
 // Each place is named for the last of the fields before it.
 fn fw_version_end(part: &[u8], at: usize) -> Consumed
-    ensures { consumed result ≡ extent fwVersion part.now at }
+    ensures { consumed result ≡ extent fw_version_layout part.now at }
 {
     let minor = skip(part, Consumed::To(at), 2);
     let hw_name = skip_name(part, minor, format::FW_VERSION_NAME_MAX_LEN);
@@ -54,7 +54,7 @@ fn fw_version_end(part: &[u8], at: usize) -> Consumed
 }
 
 fn fw_info_end(part: &[u8], at: usize) -> Consumed
-    ensures { consumed result ≡ extent fwInfo part.now at }
+    ensures { consumed result ≡ extent fw_info_layout part.now at }
 {
     let test_version_number = skip(part, Consumed::To(at), 3);
     let commit_hash = skip_name(
@@ -66,7 +66,7 @@ fn fw_info_end(part: &[u8], at: usize) -> Consumed
 }
 
 fn get_values_end(part: &[u8], at: usize) -> Consumed
-    ensures { consumed result ≡ extent getValues part.now at }
+    ensures { consumed result ≡ extent get_values part.now at }
 {
     skip(
         part,
@@ -87,7 +87,7 @@ fn masked_end(part: &[u8], at: usize, sort: Sort) -> Consumed
 
 // The place after the fields that follow an id, which start at `at`.
 pub fn fields_end(part: &[u8], id: u8, at: usize) -> Consumed
-    ensures { consumed result ≡ fieldsEnd id part.now at }
+    ensures { consumed result ≡ fields_end id part.now at }
 {
     match id {
         format::FW_VERSION => fw_version_end(part, at),

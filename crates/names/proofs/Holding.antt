@@ -6,7 +6,7 @@ use native.Mathlib.Omega.{arith}
 use lib.ListN.{length, take, drop, replicate, length-drop, length-replicate}
 use lib.Seq.{take-length, length-take-le}
 use Rattle.refusals.specs.Refusals.{Answer, ok}
-use Rattle.names.specs.Names.{nulWithin, heldBytes, name_at}
+use Rattle.names.specs.Names.{nul_within, held_bytes, name_at}
 use Rattle.names.proofs.Places.{Ends}
 
 -- fewer zeros
@@ -17,8 +17,8 @@ zeros-left (suc n) (suc k) = let less : suc n - suc k ≡ n - k = omega arith in
 
 -- the name that an answer and the bytes held with it make
 pub name_of
-    : (room : ℕ) (bytes : List ℕ) (place : ℕ) (answer : Answer ℕ) (held : List ℕ) → answer ≡ nulWithin room (drop place bytes) place
-    → held ≡ heldBytes room (drop place bytes) place answer → record { answer = answer; bytes = held } ≡ name_at room bytes place
+    : (room : ℕ) (bytes : List ℕ) (place : ℕ) (answer : Answer ℕ) (held : List ℕ) → answer ≡ nul_within room (drop place bytes) place
+    → held ≡ held_bytes room (drop place bytes) place answer → record { answer = answer; bytes = held } ≡ name_at room bytes place
 unfolding name_at
 name_of room bytes place answer held e h = rw (h, e)
 
@@ -35,8 +35,8 @@ pub copied-held
     : (room : ℕ) (bytes : List ℕ) (place next : ℕ) {zeros : List ℕ} → Ends room (length bytes) place next → zeros ≡ replicate room 0
     → take (length (take (next - place) (drop place bytes))) (take (next - place) (drop place bytes))
     ++ drop (length (take (next - place) (drop place bytes))) zeros
-    ≡ heldBytes room (drop place bytes) place (ok next)
-unfolding heldBytes
+    ≡ held_bytes room (drop place bytes) place (ok next)
+unfolding held_bytes
 copied-held room bytes place next ends e =
     let there : next - place ≤ length (drop place bytes) = simp length-drop (omega arith) in
     rw (take-length, length-take-le (next - place) (drop place bytes) there, e, zeros-left room (next - place))

@@ -11,7 +11,7 @@ use Rattle.refusals.specs.Refusals.{Answer, ok}
 use Rattle.refusals.proofs.Different.{none}
 use Rattle.refusals.specs.declared.Consumed.{Consumed}
 use Rattle.refusals.specs.declared.Consumed.TheVariants.{To}
-use Rattle.names.specs.Names.{nulWithin, name_at}
+use Rattle.names.specs.Names.{nul_within, name_at}
 use Rattle.refusals.specs.Refusals.{consumed}
 
 -- a choice that gives n gives it on one side
@@ -26,8 +26,8 @@ pub record Ends (room end place next : ℕ) : Type 0 where
   pub inside : next ≤ end
 
 -- so does a given place, of the bytes left
-pub given-lies : (room : ℕ) (left : List ℕ) (place next : ℕ) → nulWithin room left place ≡ ok next → Ends room (place + length left) place next
-unfolding nulWithin
+pub given-lies : (room : ℕ) (left : List ℕ) (place next : ℕ) → nul_within room left place ≡ ok next → Ends room (place + length left) place next
+unfolding nul_within
 given-lies zero left place next e = none (cc)
 given-lies (suc room) [] place next e = none (cc)
 given-lies (suc room) (byte ∷ left) place next e =
@@ -35,10 +35,10 @@ given-lies (suc room) (byte ∷ left) place next e =
     (λ on.
     let rest = given-lies room left (place + 1) next on in
     record { after = omega arith; roomy = omega arith; inside = omega arith })
-    (picked (eqb byte 0) (place + 1) next (nulWithin room left (place + 1)) e)
+    (picked (eqb byte 0) (place + 1) next (nul_within room left (place + 1)) e)
 
 -- the same of a scan from a place of the bytes
-pub given-ends : (room : ℕ) (bytes : List ℕ) (place next : ℕ) → nulWithin room (drop place bytes) place ≡ ok next → Ends room (length bytes) place next
+pub given-ends : (room : ℕ) (bytes : List ℕ) (place next : ℕ) → nul_within room (drop place bytes) place ≡ ok next → Ends room (length bytes) place next
 given-ends room bytes place next e =
     let lies = given-lies room (drop place bytes) place next e in
     let left = length-drop place bytes in
@@ -46,7 +46,7 @@ given-ends room bytes place next e =
 
 -- the same of a scan that found its place
 pub found-ends
-    : (room : ℕ) (bytes : List ℕ) (place next : ℕ) {scan : Consumed} → consumed scan ≡ nulWithin room (drop place bytes) place → scan ≡ To next
+    : (room : ℕ) (bytes : List ℕ) (place next : ℕ) {scan : Consumed} → consumed scan ≡ nul_within room (drop place bytes) place → scan ≡ To next
     → Ends room (length bytes) place next
 found-ends room bytes place next answer found = given-ends room bytes place next (sym answer ∙ ap consumed found)
 

@@ -7,23 +7,23 @@ use native.Mathlib.Omega.{arith}
 use lib.Dec.{eqb}
 use lib.ListN.{length, take, drop}
 use lib.Seq.{take-nil}
-use Rattle.refusals.specs.Refusals.{Refusal, Answer, ok, refused, incompleteData, invalidFrame}
+use Rattle.refusals.specs.Refusals.{Refusal, Answer, ok, refused, incomplete_data, invalid_frame}
 use Rattle.refusals.proofs.Different.{none}
-use Rattle.names.specs.Names.{nulWithin}
+use Rattle.names.specs.Names.{nul_within}
 use Rattle.names.proofs.Places.{given-lies}
 
 -- a choice whose second side more bytes do not change
 cond-prefix
-    : (b : Bool) (here on more : Answer ℕ) → ((on ≡ refused incompleteData → ⊥) → more ≡ on)
-    → (cond b here on ≡ refused incompleteData → ⊥) → cond b here more ≡ cond b here on
+    : (b : Bool) (here on more : Answer ℕ) → ((on ≡ refused incomplete_data → ⊥) → more ≡ on)
+    → (cond b here on ≡ refused incomplete_data → ⊥) → cond b here more ≡ cond b here on
 cond-prefix true here on more same known = refl
 cond-prefix false here on more same known = same known
 
 -- a scan that is answered is answered the same with more bytes
 pub nul-prefix
-    : (room : ℕ) (left more : List ℕ) (place : ℕ) → (nulWithin room left place ≡ refused incompleteData → ⊥)
-    → nulWithin room (left ++ more) place ≡ nulWithin room left place
-unfolding nulWithin
+    : (room : ℕ) (left more : List ℕ) (place : ℕ) → (nul_within room left place ≡ refused incomplete_data → ⊥)
+    → nul_within room (left ++ more) place ≡ nul_within room left place
+unfolding nul_within
 nul-prefix zero left more place known = refl
 nul-prefix (suc room) [] more place known = absurd (known refl)
 nul-prefix (suc room) (byte ∷ left) more place known =
@@ -37,17 +37,17 @@ drop-joined zero (x ∷ xs) ys = let all : 0 - length (x ∷ xs) ≡ 0 = omega a
 drop-joined (suc n) (x ∷ xs) ys = let less : suc n - length (x ∷ xs) ≡ n - length xs = omega arith in rw less (drop-joined n xs ys)
 
 -- the two refusals of a name have different numbers
-apart : invalidFrame ≡ incompleteData → ⊥
+apart : invalid_frame ≡ incomplete_data → ⊥
 apart e = let z : ◌≡◌ {A = ℕ} 2 1 = ap (λ (r : Refusal). r.number) e in omega arith
 
 -- a choice between a place and an answer that is not IncompleteData is not
-cond-enough : (b : Bool) (next : ℕ) (on : Answer ℕ) → (on ≡ refused incompleteData → ⊥) → cond b (ok next) on ≡ refused incompleteData → ⊥
+cond-enough : (b : Bool) (next : ℕ) (on : Answer ℕ) → (on ≡ refused incomplete_data → ⊥) → cond b (ok next) on ≡ refused incomplete_data → ⊥
 cond-enough true next on enough e = none (cc)
 cond-enough false next on enough e = enough e
 
 -- where as many bytes are left as there is room, no scan is IncompleteData
-pub nul-enough : (room : ℕ) (left : List ℕ) (place : ℕ) → room ≤ length left → nulWithin room left place ≡ refused incompleteData → ⊥
-unfolding nulWithin
+pub nul-enough : (room : ℕ) (left : List ℕ) (place : ℕ) → room ≤ length left → nul_within room left place ≡ refused incomplete_data → ⊥
+unfolding nul_within
 nul-enough zero left place enough e = apart (cc)
 nul-enough (suc room) [] place enough e = absurd (omega arith)
 nul-enough (suc room) (byte ∷ left) place enough e =
@@ -68,9 +68,9 @@ own-by false here next on own same e = same e
 
 -- a scan looks at no byte after the NUL
 pub nul-own
-    : (room : ℕ) (left : List ℕ) (place next k : ℕ) → next ≤ place + k → nulWithin room left place ≡ ok next
-    → nulWithin room (take k left) place ≡ ok next
-unfolding nulWithin
+    : (room : ℕ) (left : List ℕ) (place next k : ℕ) → next ≤ place + k → nul_within room left place ≡ ok next
+    → nul_within room (take k left) place ≡ ok next
+unfolding nul_within
 nul-own zero left place next k before e = none (cc)
 nul-own (suc room) [] place next k before e = none (cc)
 nul-own (suc room) (byte ∷ left) place next zero before e =

@@ -4,7 +4,7 @@ use Prim.Native.Nat.{ℕ}
 use Rattle.refusals.specs.Refusals.{Answer, ok, refused}
 use Rattle.refusals.specs.OneAnswer.{ToldApart}
 use Rattle.refusals.proofs.Unique.{told-apart, consumed-unique}
-use Rattle.names.specs.Names.{Name, named39, named47, nameSent}
+use Rattle.names.specs.Names.{Name, named39, named47, name_sent}
 use Rattle.names.specs.OneAnswer.{OneAnswer}
 use Rattle.names.specs.declared.NameSent.{NameSent}
 use Rattle.names.specs.declared.NameSent.TheVariants.{Bytes, Bad}
@@ -24,13 +24,13 @@ name47-unique a b e =
     }
 
 -- the one that says an answer
-sentBack : Answer ℕ → NameSent
-sentBack (ok count) = Bytes count
-sentBack (refused why) = Bad
+sent_again : Answer ℕ → NameSent
+sent_again (ok count) = Bytes count
+sent_again (refused why) = Bad
 
-sent-unique : ToldApart nameSent
-unfolding sentBack
-sent-unique = told-apart nameSent sentBack (elim [ Bytes count ↦ refl | Bad ↦ refl ])
+sent-unique : ToldApart name_sent
+unfolding sent_again
+sent-unique = told-apart name_sent sent_again (elim [ Bytes count ↦ refl | Bad ↦ refl ])
 
 pub one_answer : OneAnswer
 one_answer = record { find-nul = consumed-unique; name39 = name39-unique; name47 = name47-unique; sent = sent-unique }

@@ -2,8 +2,8 @@
 // src/packer.rs, the position handed in and the place after the NUL handed back; document 01,
 // "Reply fields", has the rule.
 ghost use Rattle.std.specs.Prelude.{◌≡◌, length, drop, replicate};
-ghost use Rattle.format.specs.Format.{nameRoom, hashRoom};
-ghost use Rattle.names.specs.Names.{nulWithin, name_at, named, named39, named47, allZero, sentOf, nameSent};
+ghost use Rattle.format.specs.Format.{name_room, hash_room};
+ghost use Rattle.names.specs.Names.{nul_within, name_at, named, named39, named47, all_zero, sent_of, name_sent};
 ghost use Rattle.refusals.specs.Refusals.{consumed};
 
 use refusals::{Consumed, DecodeError};
@@ -31,7 +31,7 @@ pub enum NameSent {
 
 // The place after the first NUL among the `room` bytes from `pos` on.
 pub fn find_nul(buf: &[u8], pos: usize, room: usize) -> Consumed
-    ensures { consumed result ≡ nulWithin room (drop pos buf.now) pos }
+    ensures { consumed result ≡ nul_within room (drop pos buf.now) pos }
 {
     let mut at = pos;
     let mut left = room;
@@ -66,7 +66,7 @@ fn unpack_c_string(buf: &[u8], pos: usize, room: usize, zeros: &mut [u8]) -> Con
 
 // A name of FwVersion at `pos`.
 pub fn unpack_c_string_39(buf: &[u8], pos: usize) -> Name39
-    ensures { named39 result ≡ name_at nameRoom buf.now pos }
+    ensures { named39 result ≡ name_at name_room buf.now pos }
 {
     let mut bytes = [0u8; format::FW_VERSION_NAME_MAX_LEN];
     let answer = unpack_c_string(buf, pos, format::FW_VERSION_NAME_MAX_LEN, &mut bytes);
@@ -75,7 +75,7 @@ pub fn unpack_c_string_39(buf: &[u8], pos: usize) -> Name39
 
 // A name of FwInfo at `pos`.
 pub fn unpack_c_string_47(buf: &[u8], pos: usize) -> Name47
-    ensures { named47 result ≡ name_at hashRoom buf.now pos }
+    ensures { named47 result ≡ name_at hash_room buf.now pos }
 {
     let mut bytes = [0u8; format::FW_INFO_COMMIT_HASH_MAX_LEN];
     let answer = unpack_c_string(buf, pos, format::FW_INFO_COMMIT_HASH_MAX_LEN, &mut bytes);
@@ -84,7 +84,7 @@ pub fn unpack_c_string_47(buf: &[u8], pos: usize) -> Name47
 
 // Whether all bytes from `at` on are zeros.
 fn zeros_from(held: &[u8], at: usize) -> bool
-    ensures { result ≡ allZero (drop at held.now) }
+    ensures { result ≡ all_zero (drop at held.now) }
 {
     let mut k = at;
     while k < held.len() {
@@ -99,7 +99,7 @@ fn zeros_from(held: &[u8], at: usize) -> bool
 // How much of a name is sent, document 02, W4; the Rust only reads names. `held` is the whole room
 // of the name. It is bad without a NUL, or with a byte other than zero after the first one.
 pub fn sent_len(held: &[u8]) -> NameSent
-    ensures { nameSent result ≡ sentOf (length held.now) held.now }
+    ensures { name_sent result ≡ sent_of (length held.now) held.now }
 {
     match find_nul(held, 0, held.len()) {
         Consumed::To(next) => {

@@ -5,34 +5,34 @@ use Prim.Native.Nat.{ℕ, zero, suc, ◌+◌, ◌-◌, ◌<◌}
 use native.Mathlib.Omega.{arith}
 use native.Mathlib.Nat.{zero-add, add-zero}
 use lib.ListN.{length, get_or, take, drop, replicate}
-use Rattle.packer.specs.Numbers.{beAt, numbersAt}
+use Rattle.packer.specs.Numbers.{be_at, numbers_at}
 use Rattle.packer.proofs.Numbers.{numbers-drop}
 
 -- the byte k of them
-pub byte_of : (n : ℕ) (s : List ℕ) (at k : ℕ) → k < n → get_or (numbersAt (replicate n 1) s at) k 0 ≡ get_or s (at + k) 0
-unfolding numbersAt beAt
+pub byte_of : (n : ℕ) (s : List ℕ) (at k : ℕ) → k < n → get_or (numbers_at (replicate n 1) s at) k 0 ≡ get_or s (at + k) 0
+unfolding numbers_at be_at
 byte_of zero s at k inside = absurd (omega arith)
 byte_of (suc n) s at zero inside = omega arith
 byte_of (suc n) s at (suc k) inside = byte_of n s (at + 1) k (omega arith) ∙ ap (λ (place : ℕ). get_or s place 0) (omega arith)
 
 -- one number
-pub number_of : (width : ℕ) (s : List ℕ) (at : ℕ) → get_or (numbersAt (width ∷ []) s at) 0 0 ≡ beAt s at width
-unfolding numbersAt
+pub number_of : (width : ℕ) (s : List ℕ) (at : ℕ) → get_or (numbers_at (width ∷ []) s at) 0 0 ≡ be_at s at width
+unfolding numbers_at
 number_of width s at = refl
 
 -- the first two
-pub two_bytes : (s : List ℕ) (at : ℕ) → numbersAt (replicate 2 1) s at ≡ get_or s at 0 ∷ get_or s (at + 1) 0 ∷ []
-unfolding numbersAt beAt
+pub two_bytes : (s : List ℕ) (at : ℕ) → numbers_at (replicate 2 1) s at ≡ get_or s at 0 ∷ get_or s (at + 1) 0 ∷ []
+unfolding numbers_at be_at
 two_bytes s at = rw (zero-add (get_or s (at + 0) 0), zero-add (get_or s (at + 1 + 0) 0), add-zero at, add-zero (at + 1))
 
-no_bytes : (n at : ℕ) → numbersAt (replicate n 1) [] at ≡ replicate n 0
-unfolding numbersAt beAt
+no_bytes : (n at : ℕ) → numbers_at (replicate n 1) [] at ≡ replicate n 0
+unfolding numbers_at be_at
 no_bytes zero at = refl
 no_bytes (suc n) at = ap (λ (l : List ℕ). 0 ∷ l) (no_bytes n (at + 1))
 
 -- all of them
-pub front_bytes : (n : ℕ) (s : List ℕ) → numbersAt (replicate n 1) s 0 ≡ take n s ++ replicate (n - length s) 0
-unfolding numbersAt beAt
+pub front_bytes : (n : ℕ) (s : List ℕ) → numbers_at (replicate n 1) s 0 ≡ take n s ++ replicate (n - length s) 0
+unfolding numbers_at be_at
 front_bytes zero s = let none : 0 - length s ≡ 0 = omega arith in rw none
 front_bytes (suc n) [] = let all : suc n - 0 ≡ suc n = omega arith in rw all (no_bytes (suc n) 0)
 front_bytes (suc n) (x ∷ s) =

@@ -10,7 +10,7 @@ use borrow.Author.Tests.{lt-ltb, le-ltb}
 use mir.Val.{SFits, to_z, of_z, hbits}
 use mir.Syntax.{w16, w32}
 use mir.ValLaws.{to_z_pos, to_z-of_z}
-use Rattle.packer.specs.Numbers.{signed_of, unsignedOf}
+use Rattle.packer.specs.Numbers.{signed_of, unsigned_of}
 
 minus_one : (n : ℕ) → negsuc 0 -ℤ pos n ≡ negsuc n
 minus_one zero = refl
@@ -78,18 +78,18 @@ module _ (v : ℤ) (f : SFits w32 v) (t : lt_z (to_z w32 (of_z w32 v)) (pos 0) �
   back = rw under (to_z-of_z w32 (pos (mag v)) (record { sfits = f.sfits }))
 
   -- v's bits are the last number less that
-  pub flipped : (last : ℕ) → last - mag v ≡ unsignedOf (last + 1) v
-  unfolding unsignedOf
-  flipped last = let e : last - mag v ≡ last + 1 - suc (mag v) = omega arith in e ∙ sym (ap (unsignedOf (last + 1)) negative)
+  pub flipped : (last : ℕ) → last - mag v ≡ unsigned_of (last + 1) v
+  unfolding unsigned_of
+  flipped last = let e : last - mag v ≡ last + 1 - suc (mag v) = omega arith in e ∙ sym (ap (unsigned_of (last + 1)) negative)
 
 -- v at least 0: v's bits are v, and fit a u32
-pub over : (v : ℤ) → SFits w32 v → lt_z (to_z w32 (of_z w32 v)) (pos 0) ≡ false → (all : ℕ) → to_z w32 (of_z w32 v) ≡ pos (unsignedOf all v)
-unfolding unsignedOf
+pub over : (v : ℤ) → SFits w32 v → lt_z (to_z w32 (of_z w32 v)) (pos 0) ≡ false → (all : ℕ) → to_z w32 (of_z w32 v) ≡ pos (unsigned_of all v)
+unfolding unsigned_of
 over (pos n) f t all = to_z-of_z w32 (pos n) f
 over (negsuc n) f t all = absurd (false≢true (sym (rw (to_z-of_z w32 (negsuc n) f) at t)))
 
-pub over-small : (v : ℤ) → SFits w32 v → lt_z (to_z w32 (of_z w32 v)) (pos 0) ≡ false → (all : ℕ) → unsignedOf all v < 2 ^ 32
-unfolding unsignedOf
+pub over-small : (v : ℤ) → SFits w32 v → lt_z (to_z w32 (of_z w32 v)) (pos 0) ≡ false → (all : ℕ) → unsigned_of all v < 2 ^ 32
+unfolding unsigned_of
 over-small (pos n) f t all = omega (arith, f.sfits)
 over-small (negsuc n) f t all = absurd (false≢true (sym (rw (to_z-of_z w32 (negsuc n) f) at t)))
 
@@ -103,22 +103,22 @@ module _ (v : ℤ) (f : SFits w16 v) where
 
 -- ---- a signed number, as its bits and back
 
-pub signed_back : (half : ℕ) (z : ℤ) → mag z < half → signed_of (half * 2) (unsignedOf (half * 2) z) ≡ z
-unfolding signed_of unsignedOf
+pub signed_back : (half : ℕ) (z : ℤ) → mag z < half → signed_of (half * 2) (unsigned_of (half * 2) z) ≡ z
+unfolding signed_of unsigned_of
 signed_back half (pos n) fits = rw (lt-ltb (n * 2) (half * 2) (omega arith))
 signed_back half (negsuc n) fits =
     let same : half * 2 - suc (half * 2 - suc n) ≡ n = omega arith in
     rw (le-ltb ((half * 2 - suc n) * 2) (half * 2) (omega arith), same)
 
-pub unsigned_back : (half n : ℕ) → n < half * 2 → unsignedOf (half * 2) (signed_of (half * 2) n) ≡ n
-unfolding signed_of unsignedOf
+pub unsigned_back : (half n : ℕ) → n < half * 2 → unsigned_of (half * 2) (signed_of (half * 2) n) ≡ n
+unfolding signed_of unsigned_of
 unsigned_back half n fits = go (ltb (n * 2) (half * 2)) refl
   where
-    go : (low : Bool) → ltb (n * 2) (half * 2) ≡ low → unsignedOf (half * 2) (cond low (pos n) (negsuc (half * 2 - suc n))) ≡ n
+    go : (low : Bool) → ltb (n * 2) (half * 2) ≡ low → unsigned_of (half * 2) (cond low (pos n) (negsuc (half * 2 - suc n))) ≡ n
     go true e = refl
     go false e = omega arith
 
-pub unsigned-below : (half : ℕ) (z : ℤ) → mag z < half → unsignedOf (half * 2) z < half * 2
-unfolding unsignedOf
+pub unsigned-below : (half : ℕ) (z : ℤ) → mag z < half → unsigned_of (half * 2) z < half * 2
+unfolding unsigned_of
 unsigned-below half (pos n) fits = omega arith
 unsigned-below half (negsuc n) fits = omega arith

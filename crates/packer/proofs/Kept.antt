@@ -7,18 +7,18 @@ use native.Mathlib.Omega.{arith}
 use lib.Dec.{leb}
 use lib.ListN.{length, take, length-append, length-take}
 use borrow.Author.Tests.{le-leb, leb-true, leb-false}
-use Rattle.refusals.specs.Refusals.{Refusal, Answer, ok, refused, incompleteData}
+use Rattle.refusals.specs.Refusals.{Refusal, Answer, ok, refused, incomplete_data}
 use Rattle.refusals.proofs.Different.{none}
 use Rattle.refusals.proofs.Answers.{Known, Kept, known-given}
-use Rattle.packer.specs.Numbers.{beAt}
-use Rattle.packer.specs.Unpacking.{readAt, unsignedAt, consumeAt}
+use Rattle.packer.specs.Numbers.{be_at}
+use Rattle.packer.specs.Unpacking.{read_at, unsigned_at, consume_at}
 use Rattle.packer.proofs.Places.{got}
 use Rattle.packer.proofs.Numbers.{number-prefix}
 
 -- ---- what a read's test decides
 
 abbrev pub Read : {A : Type 0} → Bool → A → Answer A
-Read there value = cond there (ok value) (refused incompleteData)
+Read there value = cond there (ok value) (refused incomplete_data)
 
 pub read_kept
     : {A : Type 0} (there more : Bool) (value after : A) → (there ≡ true → (more ≡ true) × (after ≡ value)) → Known (Read there value)
@@ -42,13 +42,13 @@ own-there m end xs before there = simp length-take (omega arith)
 
 -- ---- a number
 
-pub number-known : (width : ℕ) (s : List ℕ) (at : ℕ) → at + width ≤ length s → Known (unsignedAt width s at)
-number-known width s at there = rw (got width (beAt s at width) s at there) (known-given (beAt s at width, at + width))
+pub number-known : (width : ℕ) (s : List ℕ) (at : ℕ) → at + width ≤ length s → Known (unsigned_at width s at)
+number-known width s at there = rw (got width (be_at s at width) s at there) (known-given (be_at s at width, at + width))
 
-pub number-kept : (width : ℕ) (xs ys : List ℕ) (at : ℕ) → Kept (unsignedAt width xs at) (unsignedAt width (xs ++ ys) at)
-unfolding readAt
+pub number-kept : (width : ℕ) (xs ys : List ℕ) (at : ℕ) → Kept (unsigned_at width xs at) (unsigned_at width (xs ++ ys) at)
+unfolding read_at
 number-kept width xs ys at =
-    read_kept (leb (at + width) (length xs)) (leb (at + width) (length (xs ++ ys))) (beAt xs at width, at + width) (beAt (xs ++ ys) at width, at + width)
+    read_kept (leb (at + width) (length xs)) (leb (at + width) (length (xs ++ ys))) (be_at xs at width, at + width) (be_at (xs ++ ys) at width, at + width)
     (λ t. let there = leb-true (at + width) (length xs) t in (
       le-leb (at + width) (length (xs ++ ys)) (more-there (at + width) xs ys there),
       ap (λ (n : ℕ). (n, at + width)) (number-prefix xs ys at width there),
@@ -57,25 +57,25 @@ number-kept width xs ys at =
 -- ---- bytes as they stand
 
 pub bytes-given
-    : (width : ℕ) (s : List ℕ) (at next : ℕ) → consumeAt width s at ≡ ok next → (at + width ≤ length s) × (at + width ≡ next)
-unfolding consumeAt
+    : (width : ℕ) (s : List ℕ) (at next : ℕ) → consume_at width s at ≡ ok next → (at + width ≤ length s) × (at + width ≡ next)
+unfolding consume_at
 bytes-given width s at next e =
     let read = test-given (leb (at + width) (length s)) (at + width) next e in
     (leb-true (at + width) (length s) read.0, read.1)
 
-pub bytes-kept : (width : ℕ) (xs ys : List ℕ) (at : ℕ) → Kept (consumeAt width xs at) (consumeAt width (xs ++ ys) at)
-unfolding consumeAt
+pub bytes-kept : (width : ℕ) (xs ys : List ℕ) (at : ℕ) → Kept (consume_at width xs at) (consume_at width (xs ++ ys) at)
+unfolding consume_at
 bytes-kept width xs ys at =
     read_kept (leb (at + width) (length xs)) (leb (at + width) (length (xs ++ ys))) (at + width) (at + width)
     (λ t. (le-leb (at + width) (length (xs ++ ys)) (more-there (at + width) xs ys (leb-true (at + width) (length xs) t)), refl))
 
 -- a read that was refused
-pub read-refused : {A : Type 0} (width : ℕ) (value : A) (s : List ℕ) (at : ℕ) (why : Refusal) → readAt width value s at ≡ refused why
-    → (length s < at + width) × (why ≡ incompleteData)
-unfolding readAt
+pub read-refused : {A : Type 0} (width : ℕ) (value : A) (s : List ℕ) (at : ℕ) (why : Refusal) → read_at width value s at ≡ refused why
+    → (length s < at + width) × (why ≡ incomplete_data)
+unfolding read_at
 read-refused {A} width value s at why e = go (leb (at + width) (length s)) refl e
   where
-    go : (b : Bool) → leb (at + width) (length s) ≡ b → cond {A = Answer (A × ℕ)} b (ok (value, at + width)) (refused incompleteData) ≡ refused why
-        → (length s < at + width) × (why ≡ incompleteData)
+    go : (b : Bool) → leb (at + width) (length s) ≡ b → cond {A = Answer (A × ℕ)} b (ok (value, at + width)) (refused incomplete_data) ≡ refused why
+        → (length s < at + width) × (why ≡ incomplete_data)
     go true t e = none (cc)
     go false t e = (leb-false (at + width) (length s) t, cc)

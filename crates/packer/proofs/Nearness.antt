@@ -9,12 +9,12 @@ use lib.Dec.{T, ltb, ltb→lt, nltb→le}
 use lib.IntN.{pos, negsuc}
 use lib.Ieee.{Float, binary32, of_int, of_bits}
 use Rattle.floats.specs.Near.{size}
-use Rattle.floats.specs.Numbers.{overScale}
+use Rattle.floats.specs.Numbers.{over_scale}
 use Rattle.floats.proofs.OverScale.{reading-near}
 use Rattle.floats.proofs.Scales.{scales}
-use Rattle.packer.specs.Numbers.{beAt, signed_of}
-use Rattle.packer.specs.Unpacking.{scaledAt, unpackedF32}
-use Rattle.packer.specs.Nearness.{Bytes, rawAt, ScaledNear, ResultNear}
+use Rattle.packer.specs.Numbers.{be_at, signed_of}
+use Rattle.packer.specs.Unpacking.{scaled_at, unpacked_f32}
+use Rattle.packer.specs.Nearness.{Bytes, raw_at, ScaledNear, ResultNear}
 use Rattle.packer.proofs.Places.{read-given}
 use Rattle.packer.specs.declared.UnpackedF32.{UnpackedF32}
 use Rattle.packer.specs.declared.UnpackedF32.TheVariants.{Got, Refused}
@@ -29,15 +29,15 @@ signed-size all n h = go (ltb (n * 2) all) (ltb→lt (n * 2) all) (nltb→le (n 
     go false k l = let m : all ≤ n * 2 = l tt in omega arith
 
 -- so many bytes make a number below 256 to that power
-pub number_small : (s : List ℕ) → Bytes s → (at width : ℕ) → beAt s at width < 256 ^ width
-unfolding beAt
+pub number_small : (s : List ℕ) → Bytes s → (at width : ℕ) → be_at s at width < 256 ^ width
+unfolding be_at
 number_small s bytes at zero = omega arith
 number_small s bytes at (suc width) = omega (arith, number_small s bytes at width, bytes (at + width), pow-suc 256 width)
 
 -- ---- the raw number at a place, read
 pub scaled-near : (width scale : ℕ) → 256 ^ width ≤ 2 ^ 32 → 0 < scale → scale ≤ 2 ^ 24 → (s : List ℕ) (at : ℕ)
-    → ScaledNear width scale s at (overScale (rawAt width s at) (of_int binary32 (pos scale)))
-scaled-near width scale narrow positive small s at = reading-near (rawAt width s at) scale (signed-size (256 ^ width) (beAt s at width) narrow) positive small
+    → ScaledNear width scale s at (over_scale (raw_at width s at) (of_int binary32 (pos scale)))
+scaled-near width scale narrow positive small s at = reading-near (raw_at width s at) scale (signed-size (256 ^ width) (be_at s at width) narrow) positive small
 
 -- ---- a scale of the tables, with the literal that the code passes for it
 pub record TableScale (scale : ℕ) (literal : Float) : Type 0 where
@@ -65,19 +65,19 @@ million = record { is = scales.million; positive = omega arith; small = omega ar
 
 -- whatever meets the contract of a scaled reader
 module _ (width : ℕ) (narrow : 256 ^ width ≤ 2 ^ 32) {scale : ℕ} {literal : Float} (t : TableScale scale literal) where
-  result-near : (s : List ℕ) (at : ℕ) (r : UnpackedF32) → unpackedF32 r ≡ scaledAt width literal s at → ResultNear width scale s at r
+  result-near : (s : List ℕ) (at : ℕ) (r : UnpackedF32) → unpacked_f32 r ≡ scaled_at width literal s at → ResultNear width scale s at r
   result-near s at (Got value next) e =
       subst (ScaledNear width scale s at)
-      (ap (overScale (rawAt width s at)) t.is ∙ ap (λ (r : Float × ℕ). r.0) (read-given width _ s at (value, next) (sym e)).1)
+      (ap (over_scale (raw_at width s at)) t.is ∙ ap (λ (r : Float × ℕ). r.0) (read-given width _ s at (value, next) (sym e)).1)
       (scaled-near width scale narrow t.positive t.small s at)
   result-near s at (Refused e) p = tt
 
 -- of the results of `unpack_f32`, at each scale of the tables
 pub unpack-f32-near : {scale : ℕ} {literal : Float} → TableScale scale literal → (s : List ℕ) (at : ℕ) (r : UnpackedF32)
-    → unpackedF32 r ≡ scaledAt 4 literal s at → ResultNear 4 scale s at r
+    → unpacked_f32 r ≡ scaled_at 4 literal s at → ResultNear 4 scale s at r
 unpack-f32-near t = result-near 4 (omega arith) t
 
 -- and of `unpack_f16`
 pub unpack-f16-near : {scale : ℕ} {literal : Float} → TableScale scale literal → (s : List ℕ) (at : ℕ) (r : UnpackedF32)
-    → unpackedF32 r ≡ scaledAt 2 literal s at → ResultNear 2 scale s at r
+    → unpacked_f32 r ≡ scaled_at 2 literal s at → ResultNear 2 scale s at r
 unpack-f16-near t = result-near 2 (omega arith) t

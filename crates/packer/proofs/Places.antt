@@ -9,27 +9,27 @@ use lib.Dec.{leb}
 use lib.ListN.{length, take, drop, replicate, length-drop}
 use lib.Seq.{length-take-le, take-length, take_all}
 use borrow.Author.Tests.{le-leb, lt-leb, leb-true}
-use Rattle.refusals.specs.Refusals.{Answer, Refusal, ok, refused, incompleteData}
+use Rattle.refusals.specs.Refusals.{Answer, Refusal, ok, refused, incomplete_data}
 use Rattle.refusals.proofs.Different.{none}
-use Rattle.packer.specs.Unpacking.{readAt, UuidIs, consumeAt, uuidAt}
+use Rattle.packer.specs.Unpacking.{read_at, UuidIs, consume_at, uuid_at}
 use Rattle.refusals.specs.declared.Consumed.TheVariants.{To, Refused}
 use Rattle.refusals.specs.declared.DecodeError.TheVariants.{IncompleteData}
 
-pub got : {A : Type 0} (width : ℕ) (value : A) (s : List ℕ) (at : ℕ) → at + width ≤ length s → readAt width value s at ≡ ok (value, at + width)
-unfolding readAt
+pub got : {A : Type 0} (width : ℕ) (value : A) (s : List ℕ) (at : ℕ) → at + width ≤ length s → read_at width value s at ≡ ok (value, at + width)
+unfolding read_at
 got width value s at h = rw (le-leb (at + width) (length s) h)
 
-pub lacking : {A : Type 0} (width : ℕ) (value : A) (s : List ℕ) (at : ℕ) → length s < at + width → readAt width value s at ≡ refused incompleteData
-unfolding readAt
+pub lacking : {A : Type 0} (width : ℕ) (value : A) (s : List ℕ) (at : ℕ) → length s < at + width → read_at width value s at ≡ refused incomplete_data
+unfolding read_at
 lacking width value s at h = rw (lt-leb (at + width) (length s) h)
 
 -- a read that was answered
-pub read-given : {A : Type 0} (width : ℕ) (value : A) (s : List ℕ) (at : ℕ) (r : A × ℕ) → readAt width value s at ≡ ok r
+pub read-given : {A : Type 0} (width : ℕ) (value : A) (s : List ℕ) (at : ℕ) (r : A × ℕ) → read_at width value s at ≡ ok r
     → (at + width ≤ length s) × ((value, at + width) ≡ r)
-unfolding readAt
+unfolding read_at
 read-given {A} width value s at r e = go (leb (at + width) (length s)) refl e
   where
-    go : (b : Bool) → leb (at + width) (length s) ≡ b → cond b (ok (value, at + width)) (refused incompleteData) ≡ ok r
+    go : (b : Bool) → leb (at + width) (length s) ≡ b → cond b (ok (value, at + width)) (refused incomplete_data) ≡ ok r
         → (at + width ≤ length s) × ((value, at + width) ≡ r)
     go true t e = (leb-true (at + width) (length s) t, cc)
     go false t e = none (cc)
@@ -39,38 +39,38 @@ abbrev through : {A B : Type 0} → (A → B) → Answer (A × ℕ) → Answer (
 through f (ok (value, next)) = ok (f value, next)
 through f (refused r) = refused r
 
-read_through : {A B : Type 0} (f : A → B) (width : ℕ) (value : A) (s : List ℕ) (at : ℕ) → through f (readAt width value s at) ≡ readAt width (f value) s at
-unfolding readAt
+read_through : {A B : Type 0} (f : A → B) (width : ℕ) (value : A) (s : List ℕ) (at : ℕ) → through f (read_at width value s at) ≡ read_at width (f value) s at
+unfolding read_at
 read_through f width value s at = go (leb (at + width) (length s))
   where
-    go : (b : Bool) → through f (cond b (ok (value, at + width)) (refused incompleteData)) ≡ cond b (ok (f value, at + width)) (refused incompleteData)
+    go : (b : Bool) → through f (cond b (ok (value, at + width)) (refused incomplete_data)) ≡ cond b (ok (f value, at + width)) (refused incomplete_data)
     go true = refl
     go false = refl
 
 pub made : {A B : Type 0} (f : A → B) (width : ℕ) (value : A) (s : List ℕ) (at next : ℕ) (n : A) (x : B) → x ≡ f n
-    → ok (n, next) ≡ readAt width value s at → ok (x, next) ≡ readAt width (f value) s at
+    → ok (n, next) ≡ read_at width value s at → ok (x, next) ≡ read_at width (f value) s at
 made {B} f width value s at next n x e h = ap (λ (y : B). ok (y, next)) e ∙ ap (through f) h ∙ read_through f width value s at
 
 pub not_made : {A B : Type 0} (f : A → B) (width : ℕ) (value : A) (s : List ℕ) (at : ℕ) (r : Refusal)
-    → refused r ≡ readAt width value s at → refused r ≡ readAt width (f value) s at
+    → refused r ≡ read_at width value s at → refused r ≡ read_at width (f value) s at
 not_made f width value s at r h = ap (through f) h ∙ read_through f width value s at
 
 -- ---- bytes as they stand
-pub bytes-got : (width : ℕ) (s : List ℕ) (at : ℕ) → at + width ≤ length s → consumeAt width s at ≡ ok (at + width)
-unfolding consumeAt
+pub bytes-got : (width : ℕ) (s : List ℕ) (at : ℕ) → at + width ≤ length s → consume_at width s at ≡ ok (at + width)
+unfolding consume_at
 bytes-got width s at h = rw (le-leb (at + width) (length s) h)
 
-pub bytes-lacking : (width : ℕ) (s : List ℕ) (at : ℕ) → length s < at + width → consumeAt width s at ≡ refused incompleteData
-unfolding consumeAt
+pub bytes-lacking : (width : ℕ) (s : List ℕ) (at : ℕ) → length s < at + width → consume_at width s at ≡ refused incomplete_data
+unfolding consume_at
 bytes-lacking width s at h = rw (lt-leb (at + width) (length s) h)
 
 module _ (s : List ℕ) (at : ℕ) where
   pub uuid-lacking : length s < at + 12 → UuidIs s at (record { answer = Refused IncompleteData; bytes = replicate 12 0 })
-  unfolding uuidAt
+  unfolding uuid_at
   uuid-lacking h = record { answer = sym (bytes-lacking 12 s at h); bytes = rw (lt-leb (at + 12) (length s) h) }
 
   pub uuid-got : (bytes : List ℕ) → at + 12 ≤ length s → bytes ≡ take 12 (drop at s) → UuidIs s at (record { answer = To (at + 12); bytes = bytes })
-  unfolding uuidAt
+  unfolding uuid_at
   uuid-got bytes h e = record { answer = sym (bytes-got 12 s at h); bytes = rw (le-leb (at + 12) (length s) h) e }
 
   -- what a copy of them over twelve zeros leaves

@@ -8,21 +8,21 @@ use native.Mathlib.Omega.{arith}
 use lib.ListN.{length, take, drop, set, length-append, length-drop, drop_of_length-le}
 use lib.Seq.{sets, sets-eq, length-sets, set_comm, take-length, length-take-le, drop-drop}
 use borrow.Author.Tests.{le-leb, lt-leb}
-use Rattle.refusals.specs.Refusals.{ok, refused, bufferTooSmall}
-use Rattle.packer.specs.Numbers.{bigEndian}
-use Rattle.packer.specs.Packing.{written, packAnswer, packAfter, PackIs}
+use Rattle.refusals.specs.Refusals.{ok, refused, buffer_too_small}
+use Rattle.packer.specs.Numbers.{big_endian}
+use Rattle.packer.specs.Packing.{written, pack_answer, pack_after, PackIs}
 use Rattle.packer.specs.declared.Packed.{Packed}
 use Rattle.packer.specs.declared.Packed.TheVariants.{Next, Refused}
 use Rattle.refusals.specs.declared.EncodeError.TheVariants.{BufferTooSmall}
 
-pub digits-length : (width n : ℕ) → length (bigEndian width n) ≡ width
-unfolding bigEndian
+pub digits-length : (width n : ℕ) → length (big_endian width n) ≡ width
+unfolding big_endian
 digits-length zero n = refl
-digits-length (suc width) n = length-append (bigEndian width (n / 256)) (n % 256 ∷ []) ∙ rw (digits-length width (n / 256)) (omega arith)
+digits-length (suc width) n = length-append (big_endian width (n / 256)) (n % 256 ∷ []) ∙ rw (digits-length width (n / 256)) (omega arith)
 
 -- a byte alone
-pub byte : (n : ℕ) → n < 256 → bigEndian 1 n ≡ n ∷ []
-unfolding bigEndian
+pub byte : (n : ℕ) → n < 256 → big_endian 1 n ≡ n ∷ []
+unfolding big_endian
 byte n h = ap (λ (k : ℕ). k ∷ []) (mod-eq_of_lt h)
 
 -- ---- bytes stored one after the other
@@ -36,15 +36,15 @@ set-sets (a ∷ p) l at j x h =
     ap (λ (m : List ℕ). sets m (suc at) p) (set_comm l j at x a (λ e. omega arith)) ∙ set-sets p (set l at a) (suc at) j x (omega arith)
 
 -- ---- the digits of a number, the last one stored first
-last-first : (l : List ℕ) (at k rest : ℕ) → sets (set l (at + k) (rest % 256)) at (bigEndian k (rest / 256)) ≡ sets l at (bigEndian (suc k) rest)
-unfolding bigEndian
+last-first : (l : List ℕ) (at k rest : ℕ) → sets (set l (at + k) (rest % 256)) at (big_endian k (rest / 256)) ≡ sets l at (big_endian (suc k) rest)
+unfolding big_endian
 last-first l at k rest =
-    let e : length (bigEndian k (rest / 256)) ≡ k = digits-length k (rest / 256) in
-    set-sets (bigEndian k (rest / 256)) l at (at + k) (rest % 256) (omega arith)
-    ∙ ap (λ (j : ℕ). set (sets l at (bigEndian k (rest / 256))) j (rest % 256)) (omega arith)
-    ∙ sets-sets l at (bigEndian k (rest / 256)) (rest % 256 ∷ [])
+    let e : length (big_endian k (rest / 256)) ≡ k = digits-length k (rest / 256) in
+    set-sets (big_endian k (rest / 256)) l at (at + k) (rest % 256) (omega arith)
+    ∙ ap (λ (j : ℕ). set (sets l at (big_endian k (rest / 256))) j (rest % 256)) (omega arith)
+    ∙ sets-sets l at (big_endian k (rest / 256)) (rest % 256 ∷ [])
 
-pub turn : (l : List ℕ) (at k rest : ℕ) → 0 < k → sets (set l (at + (k - 1)) (rest % 256)) at (bigEndian (k - 1) (rest / 256)) ≡ sets l at (bigEndian k rest)
+pub turn : (l : List ℕ) (at k rest : ℕ) → 0 < k → sets (set l (at + (k - 1)) (rest % 256)) at (big_endian (k - 1) (rest / 256)) ≡ sets l at (big_endian k rest)
 turn l at zero rest h = absurd (not-suc-le-zero h)
 turn l at (suc k) rest h = let e : suc k - 1 ≡ k = omega arith in rw e (last-first l at k rest)
 
@@ -53,21 +53,21 @@ pub stored : (bytes l : List ℕ) (at : ℕ) → at + length bytes ≤ length l 
 unfolding written
 stored bytes l at h = sets-eq bytes l at h
 
-pub fits-answer : (bytes l : List ℕ) (at : ℕ) → at + length bytes ≤ length l → packAnswer bytes l at ≡ ok (at + length bytes)
-unfolding packAnswer
+pub fits-answer : (bytes l : List ℕ) (at : ℕ) → at + length bytes ≤ length l → pack_answer bytes l at ≡ ok (at + length bytes)
+unfolding pack_answer
 fits-answer bytes l at h = rw (le-leb (at + length bytes) (length l) h)
 
-pub fits_after : (bytes l : List ℕ) (at : ℕ) → at + length bytes ≤ length l → packAfter bytes l at ≡ written l at bytes
-unfolding packAfter
+pub fits_after : (bytes l : List ℕ) (at : ℕ) → at + length bytes ≤ length l → pack_after bytes l at ≡ written l at bytes
+unfolding pack_after
 fits_after bytes l at h = rw (le-leb (at + length bytes) (length l) h)
 
 -- ---- and one without
-full-answer : (bytes l : List ℕ) (at : ℕ) → length l < at + length bytes → packAnswer bytes l at ≡ refused bufferTooSmall
-unfolding packAnswer
+full-answer : (bytes l : List ℕ) (at : ℕ) → length l < at + length bytes → pack_answer bytes l at ≡ refused buffer_too_small
+unfolding pack_answer
 full-answer bytes l at h = rw (lt-leb (at + length bytes) (length l) h)
 
-full-after : (bytes l : List ℕ) (at : ℕ) → length l < at + length bytes → packAfter bytes l at ≡ l
-unfolding packAfter
+full-after : (bytes l : List ℕ) (at : ℕ) → length l < at + length bytes → pack_after bytes l at ≡ l
+unfolding pack_after
 full-after bytes l at h = rw (lt-leb (at + length bytes) (length l) h)
 
 pub full-packed : (bytes l : List ℕ) (at : ℕ) → length l < at + length bytes → PackIs bytes l at (Refused BufferTooSmall) l
@@ -88,37 +88,37 @@ copied-packed bytes l part at end ends inside is =
     }
 
 -- ---- the digits of a number
-pub digits-packed : (width n : ℕ) (l : List ℕ) (at : ℕ) (after : List ℕ) → at + width ≤ length l → after ≡ written l at (bigEndian width n)
-    → PackIs (bigEndian width n) l at (Next (at + width)) after
+pub digits-packed : (width n : ℕ) (l : List ℕ) (at : ℕ) (after : List ℕ) → at + width ≤ length l → after ≡ written l at (big_endian width n)
+    → PackIs (big_endian width n) l at (Next (at + width)) after
 digits-packed width n l at after h e =
-    let d : length (bigEndian width n) ≡ width = digits-length width n in
+    let d : length (big_endian width n) ≡ width = digits-length width n in
     record {
-      answer = ap (λ (k : ℕ). ok (at + k)) (sym d) ∙ sym (fits-answer (bigEndian width n) l at (omega arith));
-      holds = e ∙ sym (fits_after (bigEndian width n) l at (omega arith));
+      answer = ap (λ (k : ℕ). ok (at + k)) (sym d) ∙ sym (fits-answer (big_endian width n) l at (omega arith));
+      holds = e ∙ sym (fits_after (big_endian width n) l at (omega arith));
     }
 
-pub no-digits-packed : (width n : ℕ) (l : List ℕ) (at : ℕ) → length l < at + width → PackIs (bigEndian width n) l at (Refused BufferTooSmall) l
-no-digits-packed width n l at h = full-packed (bigEndian width n) l at (omega (arith, digits-length width n))
+pub no-digits-packed : (width n : ℕ) (l : List ℕ) (at : ℕ) → length l < at + width → PackIs (big_endian width n) l at (Refused BufferTooSmall) l
+no-digits-packed width n l at h = full-packed (big_endian width n) l at (omega (arith, digits-length width n))
 
 -- ---- two writes, one after the other, are one write of the joined bytes: the answer, and what the slice holds where both fit
-as-sets : (bytes l : List ℕ) (at : ℕ) → at + length bytes ≤ length l → packAfter bytes l at ≡ sets l at bytes
+as-sets : (bytes l : List ℕ) (at : ℕ) → at + length bytes ≤ length l → pack_after bytes l at ≡ sets l at bytes
 as-sets bytes l at h = fits_after bytes l at h ∙ sym (stored bytes l at h)
 
-pub after-length : (bytes l : List ℕ) (at : ℕ) → at + length bytes ≤ length l → length (packAfter bytes l at) ≡ length l
+pub after-length : (bytes l : List ℕ) (at : ℕ) → at + length bytes ≤ length l → length (pack_after bytes l at) ≡ length l
 after-length bytes l at h = ap length (as-sets bytes l at h) ∙ length-sets l at bytes
 
 module _ (p q l : List ℕ) (at : ℕ) (h : at + length p ≤ length l) where
   places : at + length p + length q ≡ at + length (p ++ q)
   places = omega (arith, length-append p q)
 
-  two-answers : packAnswer q (packAfter p l at) (at + length p) ≡ packAnswer (p ++ q) l at
-  unfolding packAnswer
+  two-answers : pack_answer q (pack_after p l at) (at + length p) ≡ pack_answer (p ++ q) l at
+  unfolding pack_answer
   two-answers = rw (after-length p l at h, places)
 
-  two-writes : at + length (p ++ q) ≤ length l → packAfter q (packAfter p l at) (at + length p) ≡ packAfter (p ++ q) l at
+  two-writes : at + length (p ++ q) ≤ length l → pack_after q (pack_after p l at) (at + length p) ≡ pack_after (p ++ q) l at
   two-writes k =
-      let room : at + length p + length q ≤ length (packAfter p l at) = rw (places, after-length p l at h) k in
-      as-sets q (packAfter p l at) (at + length p) room
+      let room : at + length p + length q ≤ length (pack_after p l at) = rw (places, after-length p l at h) k in
+      as-sets q (pack_after p l at) (at + length p) room
       ∙ ap (λ (m : List ℕ). sets m (at + length p) q) (as-sets p l at h)
       ∙ sets-sets l at p q
       ∙ sym (as-sets (p ++ q) l at k)
@@ -129,8 +129,8 @@ pub two-packs : {p q l m after : List ℕ} {at : ℕ} {r s : Packed} → at + le
 two-packs {p} {q} {l} {m} {after} {at} room w v =
     let first : at + length p ≤ length l = omega (arith, length-append p q) in
     record {
-      answer = v.answer ∙ ap (λ (x : List ℕ). packAnswer q x (at + length p)) w.holds ∙ two-answers p q l at first;
-      holds = v.holds ∙ ap (λ (x : List ℕ). packAfter q x (at + length p)) w.holds ∙ two-writes p q l at first room;
+      answer = v.answer ∙ ap (λ (x : List ℕ). pack_answer q x (at + length p)) w.holds ∙ two-answers p q l at first;
+      holds = v.holds ∙ ap (λ (x : List ℕ). pack_after q x (at + length p)) w.holds ∙ two-writes p q l at first room;
     }
 
 -- no byte

@@ -1,7 +1,7 @@
 -- Writing at a position of a lent slice: what is answered, and what the whole slice then holds. Document 01, "Six refusals": on BufferTooSmall
 -- the buffer is unchanged; "on success the bytes past what was written are unchanged, here and in every later writer".
 use Rattle.std.specs.Prelude.{cond, ◌≡◌, ℕ, ◌+◌, List, ◌++◌, leb, length, take, drop}
-use Rattle.refusals.specs.Refusals.{Answer, ok, refused, encodeRefusal, bufferTooSmall}
+use Rattle.refusals.specs.Refusals.{Answer, ok, refused, encode_refusal, buffer_too_small}
 use Rattle.packer.specs.declared.Packed.{Packed}
 use Rattle.packer.specs.declared.Packed.TheVariants.{Next, Refused}
 
@@ -10,18 +10,18 @@ unfoldable pub written : List ℕ → ℕ → List ℕ → List ℕ
 written l at bytes = take at l ++ bytes ++ drop (at + length bytes) l
 
 -- what writing the bytes at a place answers: the place after them, or BufferTooSmall where they don't fit
-unfoldable pub packAnswer : List ℕ → List ℕ → ℕ → Answer ℕ
-packAnswer bytes l at = cond (leb (at + length bytes) (length l)) (ok (at + length bytes)) (refused bufferTooSmall)
+unfoldable pub pack_answer : List ℕ → List ℕ → ℕ → Answer ℕ
+pack_answer bytes l at = cond (leb (at + length bytes) (length l)) (ok (at + length bytes)) (refused buffer_too_small)
 
 -- what the slice then holds: no room writes nothing
-unfoldable pub packAfter : List ℕ → List ℕ → ℕ → List ℕ
-packAfter bytes l at = cond (leb (at + length bytes) (length l)) (written l at bytes) l
+unfoldable pub pack_after : List ℕ → List ℕ → ℕ → List ℕ
+pack_after bytes l at = cond (leb (at + length bytes) (length l)) (written l at bytes) l
 
 abbrev pub packed : Packed → Answer ℕ
 packed (Next place) = ok place
-packed (Refused e) = refused (encodeRefusal e)
+packed (Refused e) = refused (encode_refusal e)
 
 -- writing the bytes at a place of l, all of them or none: `r` is answered, and `after` is what the slice then holds
 pub record PackIs (bytes l : List ℕ) (at : ℕ) (r : Packed) (after : List ℕ) : Type 0 where
-  pub answer : packed r ≡ packAnswer bytes l at
-  pub holds : after ≡ packAfter bytes l at
+  pub answer : packed r ≡ pack_answer bytes l at
+  pub holds : after ≡ pack_after bytes l at

@@ -2,9 +2,9 @@
 // their position stands here as functions of the slice and the position.
 ghost use Rattle.std.specs.Prelude.{◌≡◌, ◌+◌, ◌*◌, ◌%◌, ◌≤◌, ◌<◌, ◌^◌, length};
 ghost use Rattle.std.specs.Int.Signed.{mag};
-ghost use Rattle.floats.specs.Numbers.{timesScale};
-ghost use Rattle.packer.specs.Numbers.{beAt, bigEndian, signed_of, unsignedOf};
-ghost use Rattle.packer.specs.Unpacking.{unsignedAt, signedAt, unpackedU8, unpackedU16, unpackedU32, unpackedI16, unpackedI32, unpackedF32, scaledAt, float_at, NumberBelow, UuidIs};
+ghost use Rattle.floats.specs.Numbers.{times_scale};
+ghost use Rattle.packer.specs.Numbers.{be_at, big_endian, signed_of, unsigned_of};
+ghost use Rattle.packer.specs.Unpacking.{unsigned_at, signed_at, unpacked_u8, unpacked_u16, unpacked_u32, unpacked_i16, unpacked_i32, unpacked_f32, scaled_at, float_at, NumberBelow, UuidIs};
 ghost use Rattle.packer.specs.Packing.{written, PackIs};
 
 use refusals::{Consumed, DecodeError, EncodeError};
@@ -63,7 +63,7 @@ fn wide(byte: u8) -> u32
 // The big-endian number of the `width` bytes at `pos`.
 fn be(buf: &[u8], pos: usize, width: usize) -> u32
     requires { (width ≤ 4) × (pos + width ≤ length buf.now) }
-    ensures { (result ≡ beAt buf.now pos width) × (result < 256 ^ width) }
+    ensures { (result ≡ be_at buf.now pos width) × (result < 256 ^ width) }
 {
     let mut number: u32 = 0;
     let mut k: usize = 0;
@@ -78,7 +78,7 @@ fn be(buf: &[u8], pos: usize, width: usize) -> u32
 // the width is taken off the length.
 fn unpack_be(buf: &[u8], pos: usize, width: usize) -> UnpackedU32
     requires { width ≤ 4 }
-    ensures { (unpackedU32 result ≡ unsignedAt width buf.now pos) × NumberBelow (256 ^ width) result }
+    ensures { (unpacked_u32 result ≡ unsigned_at width buf.now pos) × NumberBelow (256 ^ width) result }
 {
     let len = buf.len();
     if len < width {
@@ -117,13 +117,13 @@ pub fn as_i16(number: u32) -> i32
 }
 
 pub fn unpack_u32(buf: &[u8], pos: usize) -> UnpackedU32
-    ensures { unpackedU32 result ≡ unsignedAt 4 buf.now pos }
+    ensures { unpacked_u32 result ≡ unsigned_at 4 buf.now pos }
 {
     unpack_be(buf, pos, 4)
 }
 
 pub fn unpack_i32(buf: &[u8], pos: usize) -> UnpackedI32
-    ensures { unpackedI32 result ≡ signedAt 4 buf.now pos }
+    ensures { unpacked_i32 result ≡ signed_at 4 buf.now pos }
 {
     match unpack_be(buf, pos, 4) {
         UnpackedU32::Got(number, next) => UnpackedI32::Got(as_i32(number), next),
@@ -132,7 +132,7 @@ pub fn unpack_i32(buf: &[u8], pos: usize) -> UnpackedI32
 }
 
 pub fn unpack_u16(buf: &[u8], pos: usize) -> UnpackedU16
-    ensures { unpackedU16 result ≡ unsignedAt 2 buf.now pos }
+    ensures { unpacked_u16 result ≡ unsigned_at 2 buf.now pos }
 {
     match unpack_be(buf, pos, 2) {
         UnpackedU32::Got(number, next) => UnpackedU16::Got(number as u16, next),
@@ -141,7 +141,7 @@ pub fn unpack_u16(buf: &[u8], pos: usize) -> UnpackedU16
 }
 
 pub fn unpack_i16(buf: &[u8], pos: usize) -> UnpackedI16
-    ensures { unpackedI16 result ≡ signedAt 2 buf.now pos }
+    ensures { unpacked_i16 result ≡ signed_at 2 buf.now pos }
 {
     match unpack_be(buf, pos, 2) {
         UnpackedU32::Got(number, next) => UnpackedI16::Got(signed(32768, number) as i16, next),
@@ -150,7 +150,7 @@ pub fn unpack_i16(buf: &[u8], pos: usize) -> UnpackedI16
 }
 
 pub fn unpack_u8(buf: &[u8], pos: usize) -> UnpackedU8
-    ensures { unpackedU8 result ≡ unsignedAt 1 buf.now pos }
+    ensures { unpacked_u8 result ≡ unsigned_at 1 buf.now pos }
 {
     match unpack_be(buf, pos, 1) {
         UnpackedU32::Got(number, next) => UnpackedU8::Got(number as u8, next),
@@ -158,9 +158,9 @@ pub fn unpack_u8(buf: &[u8], pos: usize) -> UnpackedU8
     }
 }
 
-// A signed 32-bit number over a scale: wS of document 01, "Reply fields".
+// A signed 32-bit number over a scale: w_s of document 01, "Reply fields".
 pub fn unpack_f32(buf: &[u8], pos: usize, scale: f32) -> UnpackedF32
-    ensures { unpackedF32 result ≡ scaledAt 4 scale buf.now pos }
+    ensures { unpacked_f32 result ≡ scaled_at 4 scale buf.now pos }
 {
     match unpack_i32(buf, pos) {
         UnpackedI32::Got(raw, next) => UnpackedF32::Got(floats::scaled(raw, scale), next),
@@ -168,9 +168,9 @@ pub fn unpack_f32(buf: &[u8], pos: usize, scale: f32) -> UnpackedF32
     }
 }
 
-// A signed 16-bit number over a scale: hS.
+// A signed 16-bit number over a scale: h_s.
 pub fn unpack_f16(buf: &[u8], pos: usize, scale: f32) -> UnpackedF32
-    ensures { unpackedF32 result ≡ scaledAt 2 scale buf.now pos }
+    ensures { unpacked_f32 result ≡ scaled_at 2 scale buf.now pos }
 {
     match unpack_i16(buf, pos) {
         UnpackedI16::Got(raw, next) => UnpackedF32::Got(floats::scaled(raw as i32, scale), next),
@@ -180,7 +180,7 @@ pub fn unpack_f16(buf: &[u8], pos: usize, scale: f32) -> UnpackedF32
 
 // A binary32 by its bits: F.
 pub fn unpack_f32_auto(buf: &[u8], pos: usize) -> UnpackedF32
-    ensures { unpackedF32 result ≡ float_at buf.now pos }
+    ensures { unpacked_f32 result ≡ float_at buf.now pos }
 {
     match unpack_u32(buf, pos) {
         UnpackedU32::Got(bits, next) => UnpackedF32::Got(floats::f32_from_bits(bits), next),
@@ -224,7 +224,7 @@ pub enum Packed {
 // division leaves.
 fn put_be(buf: &mut [u8], pos: usize, width: usize, number: u32)
     requires { pos + width ≤ length buf.old }
-    ensures { buf.new ≡ written buf.old pos (bigEndian width number) }
+    ensures { buf.new ≡ written buf.old pos (big_endian width number) }
 {
     let mut k = width;
     let mut rest = number;
@@ -237,7 +237,7 @@ fn put_be(buf: &mut [u8], pos: usize, width: usize, number: u32)
 
 // The same where there is room, and nothing where there is none.
 pub fn pack_be(buf: &mut [u8], pos: usize, width: usize, number: u32) -> Packed
-    ensures { PackIs (bigEndian width number) buf.old pos result buf.new }
+    ensures { PackIs (big_endian width number) buf.old pos result buf.new }
 {
     let room = buf.len();
     if room < width {
@@ -253,7 +253,7 @@ pub fn pack_be(buf: &mut [u8], pos: usize, width: usize, number: u32) -> Packed
 // The bits of a signed number as an unsigned one; `last` is the largest of that width.
 fn unsigned(last: u32, value: i32) -> u32
     requires { mag value ≤ last }
-    ensures { result ≡ unsignedOf (last + 1) value }
+    ensures { result ≡ unsigned_of (last + 1) value }
 {
     if value < 0 {
         return last - ((-1 - value) as u32);
@@ -263,51 +263,51 @@ fn unsigned(last: u32, value: i32) -> u32
 
 // The Rust's `value as u32`, the inverse of `as_i32`.
 pub fn as_u32(value: i32) -> u32
-    ensures { result ≡ unsignedOf (256 ^ 4) value }
+    ensures { result ≡ unsigned_of (256 ^ 4) value }
 {
     unsigned(4294967295, value)
 }
 
 // The Rust's `value as u16`, in a u32.
 pub fn as_u16(value: i16) -> u32
-    ensures { result ≡ unsignedOf (256 ^ 2) value }
+    ensures { result ≡ unsigned_of (256 ^ 2) value }
 {
     unsigned(65535, value as i32)
 }
 
 pub fn pack_u32(buf: &mut [u8], pos: usize, value: u32) -> Packed
-    ensures { PackIs (bigEndian 4 value) buf.old pos result buf.new }
+    ensures { PackIs (big_endian 4 value) buf.old pos result buf.new }
 {
     pack_be(buf, pos, 4, value)
 }
 
 pub fn pack_i32(buf: &mut [u8], pos: usize, value: i32) -> Packed
-    ensures { PackIs (bigEndian 4 (unsignedOf (256 ^ 4) value)) buf.old pos result buf.new }
+    ensures { PackIs (big_endian 4 (unsigned_of (256 ^ 4) value)) buf.old pos result buf.new }
 {
     pack_be(buf, pos, 4, as_u32(value))
 }
 
 pub fn pack_u16(buf: &mut [u8], pos: usize, value: u16) -> Packed
-    ensures { PackIs (bigEndian 2 value) buf.old pos result buf.new }
+    ensures { PackIs (big_endian 2 value) buf.old pos result buf.new }
 {
     pack_be(buf, pos, 2, value as u32)
 }
 
 pub fn pack_i16(buf: &mut [u8], pos: usize, value: i16) -> Packed
-    ensures { PackIs (bigEndian 2 (unsignedOf (256 ^ 2) value)) buf.old pos result buf.new }
+    ensures { PackIs (big_endian 2 (unsigned_of (256 ^ 2) value)) buf.old pos result buf.new }
 {
     pack_be(buf, pos, 2, as_u16(value))
 }
 
 pub fn pack_u8(buf: &mut [u8], pos: usize, value: u8) -> Packed
-    ensures { PackIs (bigEndian 1 value) buf.old pos result buf.new }
+    ensures { PackIs (big_endian 1 value) buf.old pos result buf.new }
 {
     pack_be(buf, pos, 1, value as u32)
 }
 
 // A value times its scale, toward zero and held: document 01, "Numbers".
 pub fn pack_f32(buf: &mut [u8], pos: usize, value: f32, scale: f32) -> Packed
-    ensures { PackIs (bigEndian 4 (unsignedOf (256 ^ 4) (timesScale value scale))) buf.old pos result buf.new }
+    ensures { PackIs (big_endian 4 (unsigned_of (256 ^ 4) (times_scale value scale))) buf.old pos result buf.new }
 {
     pack_i32(buf, pos, floats::unscaled(value, scale))
 }

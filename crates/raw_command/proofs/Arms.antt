@@ -8,7 +8,7 @@ use lib.Dec.{eqb}
 use lib.ListN.{length, get_or}
 use Rattle.format.specs.declared.CommandId.{CommandId}
 use Rattle.format.specs.declared.CommandId.TheVariants.{ForwardCan}
-use Rattle.packer.specs.Numbers.{beAt}
+use Rattle.packer.specs.Numbers.{be_at}
 use Rattle.raw_command.specs.Commands.{form_of, width_of, Plain}
 use Rattle.raw_command.specs.Reading.{is_forward, numbered}
 
@@ -21,18 +21,18 @@ module _ (bytes : List ℕ) where
   pub there : {id known : CommandId} → id ≡ known → length bytes ≡ 1 + width_of (form_of id) → length bytes ≡ 1 + width_of (form_of known)
   there is size = rw (← is) size
 
-  pub arm : {id known : CommandId} {plain : Plain} → id ≡ known → plain ≡ numbered known (beAt bytes 1 (width_of (form_of known)))
-      → plain ≡ numbered id (beAt bytes 1 (width_of (form_of id)))
+  pub arm : {id known : CommandId} {plain : Plain} → id ≡ known → plain ≡ numbered known (be_at bytes 1 (width_of (form_of known)))
+      → plain ≡ numbered id (be_at bytes 1 (width_of (form_of id)))
   arm is made = rw is made
 
-  pub flag-there : (set : Bool) → set ≡ eqb (get_or bytes 1 0) 1 → set ≡ eqb (beAt bytes 1 1) 1
-  unfolding beAt
-  flag-there set e = let same : get_or bytes 1 0 ≡ beAt bytes 1 1 = omega arith in rw same at e
+  pub flag-there : (set : Bool) → set ≡ eqb (get_or bytes 1 0) 1 → set ≡ eqb (be_at bytes 1 1) 1
+  unfolding be_at
+  flag-there set e = let same : get_or bytes 1 0 ≡ be_at bytes 1 1 = omega arith in rw same at e
 
   pub flags-there : (first second : Bool) → get_or bytes 2 0 < 256 → first ≡ eqb (get_or bytes 1 0) 1 → second ≡ eqb (get_or bytes 2 0) 1
-      → ◌≡◌ {A = Bool × Bool} (first, second) (eqb (beAt bytes 1 2 / 256) 1, eqb (beAt bytes 1 2 % 256) 1)
-  unfolding beAt
+      → ◌≡◌ {A = Bool × Bool} (first, second) (eqb (be_at bytes 1 2 / 256) 1, eqb (be_at bytes 1 2 % 256) 1)
+  unfolding be_at
   flags-there first second small e f =
-      let high : beAt bytes 1 2 / 256 ≡ get_or bytes 1 0 = omega arith in
-      let low : beAt bytes 1 2 % 256 ≡ get_or bytes 2 0 = omega arith in
+      let high : be_at bytes 1 2 / 256 ≡ get_or bytes 1 0 = omega arith in
+      let low : be_at bytes 1 2 % 256 ≡ get_or bytes 2 0 = omega arith in
       rw (high, low, e, f)

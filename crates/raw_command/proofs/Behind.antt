@@ -10,8 +10,8 @@ use borrow.Author.Tests.{le-leb, lt-leb}
 use Rattle.refusals.specs.Refusals.{Refusal, ok, refused}
 use Rattle.refusals.proofs.Different.{none}
 use Rattle.format.specs.declared.CommandId.{CommandId}
-use Rattle.packer.specs.Numbers.{beAt}
-use Rattle.packer.specs.Unpacking.{unsignedAt}
+use Rattle.packer.specs.Numbers.{be_at}
+use Rattle.packer.specs.Unpacking.{unsigned_at}
 use Rattle.packer.proofs.Places.{got, read-given}
 use Rattle.raw_command.specs.Commands.{form_of, width_of, most_of}
 use Rattle.raw_command.specs.Reading.{at_most}
@@ -26,12 +26,12 @@ carried is says w m = rw is (says.0 ∙ w, says.1 ∙ m)
 -- ---- a number that a reader of packer gave
 
 module _ (width : ℕ) (bytes : List ℕ) (at : ℕ) where
-  pub number-got : (read : ℕ × ℕ) → ok read ≡ unsignedAt width bytes at → read.0 ≡ beAt bytes at width
-  number-got read e = sym (ap (λ (r : ℕ × ℕ). r.0) (read-given width (beAt bytes at width) bytes at read (sym e)).1)
+  pub number-got : (read : ℕ × ℕ) → ok read ≡ unsigned_at width bytes at → read.0 ≡ be_at bytes at width
+  number-got read e = sym (ap (λ (r : ℕ × ℕ). r.0) (read-given width (be_at bytes at width) bytes at read (sym e)).1)
 
   -- it gives one where the bytes are there
-  pub never-refused : {A : Type 0} (why : Refusal) → refused why ≡ unsignedAt width bytes at → at + width ≤ length bytes → A
-  never-refused why e there = let g = got width (beAt bytes at width) bytes at there in none (cc)
+  pub never-refused : {A : Type 0} (why : Refusal) → refused why ≡ unsigned_at width bytes at → at + width ≤ length bytes → A
+  never-refused why e there = let g = got width (be_at bytes at width) bytes at there in none (cc)
 
 -- ---- the limit, from a place on
 

@@ -6,16 +6,16 @@ use Prim.Native.Nat.{ℕ}
 use native.Mathlib.Omega.{arith}
 use lib.Dec.{eqb}
 use borrow.Author.Tests.{eqb-true}
-use Rattle.refusals.specs.Refusals.{ok, unknownPacket}
+use Rattle.refusals.specs.Refusals.{ok, unknown_packet}
 use Rattle.refusals.proofs.Different.{none}
 use Rattle.refusals.proofs.Answers.{Known, known-refused, known-given, given-same}
 use Rattle.format.specs.Format.{id_of}
 use Rattle.format.specs.declared.CommandId.{CommandId}
 use Rattle.format.specs.declared.CommandId.TheVariants as id
-use Rattle.raw_command.specs.Reading.{idAmong, idNamed}
+use Rattle.raw_command.specs.Reading.{id_among, id_named}
 
-pub id-back : (command : CommandId) → idNamed (id_of command) ≡ ok command
-unfolding idAmong
+pub id-back : (command : CommandId) → id_named (id_of command) ≡ ok command
+unfolding id_among
 id-back id.FwVersion = refl
 id-back id.GetValues = refl
 id-back id.SetDuty = refl
@@ -37,26 +37,26 @@ id-back id.Shutdown = refl
 id-back id.FwInfo = refl
 id-back id.MotorEstop = refl
 
-pub id-given : (ids : List CommandId) (byte : ℕ) (command : CommandId) → idAmong ids byte ≡ ok command → byte ≡ id_of command
-unfolding idAmong
+pub id-given : (ids : List CommandId) (byte : ℕ) (command : CommandId) → id_among ids byte ≡ ok command → byte ≡ id_of command
+unfolding id_among
 id-given [] byte command e = none (cc)
 id-given (first ∷ ids) byte command e = go (eqb byte (id_of first)) refl e (id-given ids byte command)
   where
-    go : (here : Bool) → eqb byte (id_of first) ≡ here → cond here (ok first) (idAmong ids byte) ≡ ok command
-        → (idAmong ids byte ≡ ok command → byte ≡ id_of command) → byte ≡ id_of command
+    go : (here : Bool) → eqb byte (id_of first) ≡ here → cond here (ok first) (id_among ids byte) ≡ ok command
+        → (id_among ids byte ≡ ok command → byte ≡ id_of command) → byte ≡ id_of command
     go true t e on = rw (← given-same e) (eqb-true byte (id_of first) t)
     go false t e on = on e
 
 -- a byte that is a command's id
-pub named : (command : CommandId) (byte : ℕ) → byte ≡ id_of command → ok command ≡ idNamed byte
+pub named : (command : CommandId) (byte : ℕ) → byte ≡ id_of command → ok command ≡ id_named byte
 named command byte is = rw is (sym (id-back command))
 
 -- a byte that is no command's id is UnknownPacket
-pub id-known : (ids : List CommandId) (byte : ℕ) → Known (idAmong ids byte)
-unfolding idAmong
-id-known [] byte = known-refused (unknownPacket byte) (λ e. omega arith)
+pub id-known : (ids : List CommandId) (byte : ℕ) → Known (id_among ids byte)
+unfolding id_among
+id-known [] byte = known-refused (unknown_packet byte) (λ e. omega arith)
 id-known (first ∷ ids) byte = go (eqb byte (id_of first)) (id-known ids byte)
   where
-    go : (here : Bool) → Known (idAmong ids byte) → Known (cond here (ok first) (idAmong ids byte))
+    go : (here : Bool) → Known (id_among ids byte) → Known (cond here (ok first) (id_among ids byte))
     go true on = known-given first
     go false on = on

@@ -4,7 +4,7 @@ use Prim.Native.Nat.{◌≤◌}
 use native.Mathlib.Omega.{arith}
 use lib.ListN.{length}
 use Rattle.packer.proofs.Writes.{digits-length}
-use Rattle.raw_command.specs.Commands.{Form, bare, flag, flags, half, word, signed, form_of, width_of, Plain, width_in, number_in, bytesIn, sizeIn}
+use Rattle.raw_command.specs.Commands.{Form, bare, flag, flags, half, word, signed, form_of, width_of, Plain, width_in, number_in, bytes_in, size_in}
 
 pub narrow : (form : Form) → width_of form ≤ 4
 narrow bare = omega arith
@@ -15,5 +15,5 @@ narrow word = omega arith
 narrow signed = omega arith
 
 -- the lengths that document 01 gives are those of the bytes, from one to five
-pub sizes : (plain : Plain) → (length (bytesIn plain) ≡ sizeIn plain) × ((1 ≤ sizeIn plain) × (sizeIn plain ≤ 5))
+pub sizes : (plain : Plain) → (length (bytes_in plain) ≡ size_in plain) × ((1 ≤ size_in plain) × (size_in plain ≤ 5))
 sizes plain = let n = narrow (form_of plain.id) in (omega (arith, digits-length (width_in plain) (number_in plain)), (omega arith, omega arith))

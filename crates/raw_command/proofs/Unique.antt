@@ -6,13 +6,13 @@ use native.Mathlib.Omega.{arith}
 use borrow.Author.Tests.{ne_eqb}
 use Rattle.refusals.specs.Refusals.{Answer, ok, refused}
 use Rattle.refusals.specs.OneAnswer.{ToldApart}
-use Rattle.refusals.proofs.Unique.{told-apart, readBack, decode-back}
+use Rattle.refusals.proofs.Unique.{told-apart, read_back, decode-back}
 use Rattle.format.specs.Format.{id_of}
 use Rattle.format.specs.declared.CommandId.{CommandId}
 use Rattle.format.specs.declared.CommandId.TheVariants as id
 use Rattle.raw_command.specs.Commands.{Plain, Value, form_of, plain_of}
 use Rattle.format.proofs.Ids.{ids-apart}
-use Rattle.raw_command.specs.Reading.{is_forward, identified, unpackedCommand}
+use Rattle.raw_command.specs.Reading.{is_forward, identified, unpacked_command}
 use Rattle.raw_command.specs.Laws.{OneAnswer}
 use Rattle.raw_command.specs.declared.RawCommand.{RawCommand}
 use Rattle.raw_command.specs.declared.RawCommand.TheVariants as raw
@@ -22,33 +22,33 @@ use Rattle.raw_command.specs.declared.UnpackedCommand.{UnpackedCommand}
 use Rattle.raw_command.specs.declared.UnpackedCommand.TheVariants.{Got, Refused}
 
 -- the command with an id and a value; FwVersion, a filler, for ForwardCan
-commandWith : (id : CommandId) → Value (form_of id) → RawCommand
-commandWith id.FwVersion none = raw.FwVersion
-commandWith id.GetValues none = raw.GetValues
-commandWith id.SetDuty value = raw.SetDuty value
-commandWith id.SetCurrent value = raw.SetCurrent value
-commandWith id.SetCurrentBrake value = raw.SetCurrentBrake value
-commandWith id.SetRpm value = raw.SetRpm value
-commandWith id.SetPos value = raw.SetPos value
-commandWith id.SetHandbrake value = raw.SetHandbrake value
-commandWith id.Reboot none = raw.Reboot
-commandWith id.Alive none = raw.Alive
-commandWith id.ForwardCan none = raw.FwVersion
-commandWith id.GetValuesSelective value = raw.GetValuesSelective value
-commandWith id.GetValuesSetupSelective value = raw.GetValuesSetupSelective value
-commandWith id.SetCurrentRel value = raw.SetCurrentRel value
-commandWith id.SetOdometer value = raw.SetOdometer value
-commandWith id.GetStats value = raw.GetStats value
-commandWith id.ResetStats value = raw.ResetStats value
-commandWith id.Shutdown (force, restart) = raw.Shutdown force restart
-commandWith id.FwInfo none = raw.FwInfo
-commandWith id.MotorEstop value = raw.MotorEstop value
+command_with : (id : CommandId) → Value (form_of id) → RawCommand
+command_with id.FwVersion none = raw.FwVersion
+command_with id.GetValues none = raw.GetValues
+command_with id.SetDuty value = raw.SetDuty value
+command_with id.SetCurrent value = raw.SetCurrent value
+command_with id.SetCurrentBrake value = raw.SetCurrentBrake value
+command_with id.SetRpm value = raw.SetRpm value
+command_with id.SetPos value = raw.SetPos value
+command_with id.SetHandbrake value = raw.SetHandbrake value
+command_with id.Reboot none = raw.Reboot
+command_with id.Alive none = raw.Alive
+command_with id.ForwardCan none = raw.FwVersion
+command_with id.GetValuesSelective value = raw.GetValuesSelective value
+command_with id.GetValuesSetupSelective value = raw.GetValuesSetupSelective value
+command_with id.SetCurrentRel value = raw.SetCurrentRel value
+command_with id.SetOdometer value = raw.SetOdometer value
+command_with id.GetStats value = raw.GetStats value
+command_with id.ResetStats value = raw.ResetStats value
+command_with id.Shutdown (force, restart) = raw.Shutdown force restart
+command_with id.FwInfo none = raw.FwInfo
+command_with id.MotorEstop value = raw.MotorEstop value
 
-commandBack : Plain → RawCommand
-commandBack plain = commandWith plain.id plain.value
+command_back : Plain → RawCommand
+command_back plain = command_with plain.id plain.value
 
-command-back : (command : RawCommand) → commandBack (plain_of command) ≡ command
-unfolding commandWith commandBack
+command-back : (command : RawCommand) → command_back (plain_of command) ≡ command
+unfolding command_with command_back
 command-back raw.FwVersion = refl
 command-back raw.GetValues = refl
 command-back (raw.SetDuty value) = refl
@@ -70,13 +70,13 @@ command-back raw.FwInfo = refl
 command-back (raw.MotorEstop value) = refl
 
 -- a hop would be the filler
-forward-filler : (hop : CommandId) → hop ≡ id.ForwardCan → (value : Value (form_of hop)) → commandWith hop value ≡ raw.FwVersion
-unfolding commandWith
-forward-filler hop e = subst (λ (k : CommandId). (value : Value (form_of k)) → commandWith k value ≡ raw.FwVersion) (sym e) (λ value. refl)
+forward-filler : (hop : CommandId) → hop ≡ id.ForwardCan → (value : Value (form_of hop)) → command_with hop value ≡ raw.FwVersion
+unfolding command_with
+forward-filler hop e = subst (λ (k : CommandId). (value : Value (form_of k)) → command_with k value ≡ raw.FwVersion) (sym e) (λ value. refl)
 
 -- and FwVersion has another id: no command is a hop
 pub never-forward : (command : RawCommand) → is_forward (plain_of command).id ≡ false
-unfolding commandBack
+unfolding command_back
 never-forward command =
     ne_eqb _ _ (λ e.
     let is = ids-apart (plain_of command).id id.ForwardCan e in
@@ -85,19 +85,19 @@ never-forward command =
     omega (arith, zero, e))
 
 plain-apart : ToldApart plain_of
-plain-apart = told-apart plain_of commandBack command-back
+plain-apart = told-apart plain_of command_back command-back
 
-identifiedBack : Answer CommandId → Identified
-identifiedBack (ok id) = Known id
-identifiedBack (refused why) = Unknown
+identified_back : Answer CommandId → Identified
+identified_back (ok id) = Known id
+identified_back (refused why) = Unknown
 
-identified-back : (byte : ℕ) (a : Identified) → identifiedBack (identified byte a) ≡ a
-unfolding identifiedBack
+identified-back : (byte : ℕ) (a : Identified) → identified_back (identified byte a) ≡ a
+unfolding identified_back
 identified-back byte (Known id) = refl
 identified-back byte Unknown = refl
 
-unpacked-back : (a : UnpackedCommand) → readBack (λ plain. Got (commandBack plain)) Refused (unpackedCommand a) ≡ a
-unfolding readBack
+unpacked-back : (a : UnpackedCommand) → read_back (λ plain. Got (command_back plain)) Refused (unpacked_command a) ≡ a
+unfolding read_back
 unpacked-back (Got command) = ap Got (command-back command)
 unpacked-back (Refused e) = ap Refused (decode-back e)
 
@@ -105,6 +105,6 @@ pub one_answer : OneAnswer
 one_answer =
     record {
       plain = plain-apart;
-      command-ids = λ byte. told-apart (identified byte) identifiedBack (identified-back byte);
-      unpack-command = told-apart unpackedCommand (readBack (λ plain. Got (commandBack plain)) Refused) unpacked-back;
+      command-ids = λ byte. told-apart (identified byte) identified_back (identified-back byte);
+      unpack-command = told-apart unpacked_command (read_back (λ plain. Got (command_back plain)) Refused) unpacked-back;
     }

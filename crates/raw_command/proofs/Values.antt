@@ -9,30 +9,30 @@ use lib.ListN.{get_or, drop}
 use lib.Seq.{get_or-drop}
 use lib.Signed.{mag}
 use borrow.Author.Tests.{le-leb, leb-true}
-use Rattle.packer.specs.Numbers.{beAt, bigEndian, signed_of, unsignedOf}
+use Rattle.packer.specs.Numbers.{be_at, big_endian, signed_of, unsigned_of}
 use Rattle.packer.specs.Nearness.{Bytes}
 use Rattle.packer.proofs.Complement.{mag-below-half, signed_back, unsigned_back, unsigned-below}
-use Rattle.raw_command.specs.Commands.{Form, bare, flag, flags, half, word, signed, Value, flagByte, number_of, width_of, most_of}
+use Rattle.raw_command.specs.Commands.{Form, bare, flag, flags, half, word, signed, Value, flag_byte, number_of, width_of, most_of}
 use Rattle.raw_command.specs.Reading.{value_of, at_most}
 use Rattle.raw_command.specs.Laws.{Fits}
 
 -- ---- a signed number of 32 bits
 
-signed-number : (n : ℕ) → n < 256 ^ 4 → (mag (signed_of (256 ^ 4) n) < 2 ^ 31) × (unsignedOf (256 ^ 4) (signed_of (256 ^ 4) n) ≡ n)
+signed-number : (n : ℕ) → n < 256 ^ 4 → (mag (signed_of (256 ^ 4) n) < 2 ^ 31) × (unsigned_of (256 ^ 4) (signed_of (256 ^ 4) n) ≡ n)
 signed-number n fits = (mag-below-half (2 ^ 31) n fits, unsigned_back (2 ^ 31) n fits)
 
 -- ---- flags
 
-flag-most : (set : Bool) → flagByte set ≤ 1
+flag-most : (set : Bool) → flag_byte set ≤ 1
 flag-most true = omega arith
 flag-most false = omega arith
 
-flag-back : (n : ℕ) → n ≤ 1 → flagByte (eqb n 1) ≡ n
+flag-back : (n : ℕ) → n ≤ 1 → flag_byte (eqb n 1) ≡ n
 flag-back zero most = refl
 flag-back (suc zero) most = refl
 flag-back (suc (suc n)) most = absurd (omega arith)
 
-flags-back : (first second : Bool) → value_of flags (flagByte first * 256 + flagByte second) ≡ (first, second)
+flags-back : (first second : Bool) → value_of flags (flag_byte first * 256 + flag_byte second) ≡ (first, second)
 flags-back true true = refl
 flags-back true false = refl
 flags-back false true = refl
@@ -64,10 +64,10 @@ one_more most (first ∷ bytes) byte e under = go (leb first most) (at_most most
     go false rest r on e = absurd (false≢true e)
 
 -- as no digit is above 255
-digits-allowed : (width n : ℕ) → at_most 255 (bigEndian width n) ≡ true
-unfolding bigEndian at_most
+digits-allowed : (width n : ℕ) → at_most 255 (big_endian width n) ≡ true
+unfolding big_endian at_most
 digits-allowed zero n = refl
-digits-allowed (suc width) n = one_more 255 (bigEndian width (n / 256)) (n % 256) (digits-allowed width (n / 256)) (omega arith)
+digits-allowed (suc width) n = one_more 255 (big_endian width (n / 256)) (n % 256) (digits-allowed width (n / 256)) (omega arith)
 
 -- ---- every form
 
@@ -91,8 +91,8 @@ value-back word n fits = refl
 value-back signed z fits = signed_back (2 ^ 31) z fits
 
 -- and none of its bytes is above what its form allows
-pub value-allowed : (form : Form) (value : Value form) → at_most (most_of form) (bigEndian (width_of form) (number_of form value)) ≡ true
-unfolding bigEndian at_most
+pub value-allowed : (form : Form) (value : Value form) → at_most (most_of form) (big_endian (width_of form) (number_of form value)) ≡ true
+unfolding big_endian at_most
 value-allowed bare none = refl
 value-allowed flag true = refl
 value-allowed flag false = refl
@@ -102,7 +102,7 @@ value-allowed flags (false, true) = refl
 value-allowed flags (false, false) = refl
 value-allowed half n = digits-allowed 2 n
 value-allowed word n = digits-allowed 4 n
-value-allowed signed z = digits-allowed 4 (unsignedOf (256 ^ 4) z)
+value-allowed signed z = digits-allowed 4 (unsigned_of (256 ^ 4) z)
 
 -- ---- the bytes behind an id
 
@@ -113,15 +113,15 @@ module _ (bytes : List ℕ) where
 
   -- their number is that of the value that is read of it, and the value fits
   pub number-back : (form : Form) → Bytes bytes → at_most (most_of form) (drop 1 bytes) ≡ true
-      → Fits form (value_of form (beAt bytes 1 (width_of form))) × (number_of form (value_of form (beAt bytes 1 (width_of form))) ≡ beAt bytes 1 (width_of form))
-  unfolding beAt
+      → Fits form (value_of form (be_at bytes 1 (width_of form))) × (number_of form (value_of form (be_at bytes 1 (width_of form))) ≡ be_at bytes 1 (width_of form))
+  unfolding be_at
   number-back bare b allowed = (tt, refl)
   number-back flag b allowed = (tt, flag-back _ (omega (arith, allowed_at 1 0 allowed)))
   number-back flags b allowed =
       let first = allowed_at 1 0 allowed in
       let second = allowed_at 1 1 allowed in
-      let n = beAt bytes 1 2 in
+      let n = be_at bytes 1 2 in
       (tt, rw (flag-back (n / 256) (omega arith), flag-back (n % 256) (omega arith)) (omega arith))
   number-back half b allowed = (omega (arith, b 1, b 2), refl)
   number-back word b allowed = (omega (arith, b 1, b 2, b 3, b 4), refl)
-  number-back signed b allowed = signed-number (beAt bytes 1 4) (omega (arith, b 1, b 2, b 3, b 4))
+  number-back signed b allowed = signed-number (be_at bytes 1 4) (omega (arith, b 1, b 2, b 3, b 4))

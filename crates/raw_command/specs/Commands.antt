@@ -3,7 +3,7 @@ use Rattle.std.specs.Prelude.{Bool, true, false, ◌≡◌, List, ◌∷◌, ℕ
 use Rattle.format.specs.Format.{id_of}
 use Rattle.format.specs.declared.CommandId.{CommandId}
 use Rattle.format.specs.declared.CommandId.TheVariants as id
-use Rattle.packer.specs.Numbers.{bigEndian, unsignedOf}
+use Rattle.packer.specs.Numbers.{big_endian, unsigned_of}
 use Rattle.raw_command.specs.declared.Parts.{Parts}
 use Rattle.raw_command.specs.declared.RawCommand.{RawCommand}
 use Rattle.raw_command.specs.declared.RawCommand.TheVariants.{FwVersion, GetValues, SetDuty, SetCurrent, SetCurrentBrake, SetRpm, SetPos, SetHandbrake}
@@ -56,18 +56,18 @@ Value word = ℕ
 Value signed = ℤ
 
 -- "two flags as 0 or 1"
-abbrev pub flagByte : Bool → ℕ
-flagByte true = 1
-flagByte false = 0
+abbrev pub flag_byte : Bool → ℕ
+flag_byte true = 1
+flag_byte false = 0
 
 -- as one number: two flags are a byte each of it
 abbrev pub number_of : (form : Form) → Value form → ℕ
 number_of bare none = 0
-number_of flag set = flagByte set
-number_of flags (first, second) = flagByte first * 256 + flagByte second
+number_of flag set = flag_byte set
+number_of flags (first, second) = flag_byte first * 256 + flag_byte second
 number_of half n = n
 number_of word n = n
-number_of signed z = unsignedOf (256 ^ 4) z
+number_of signed z = unsigned_of (256 ^ 4) z
 
 -- in so many bytes
 abbrev pub width_of : Form → ℕ
@@ -117,8 +117,8 @@ plain_of (MotorEstop time) = record { id = id.MotorEstop; value = time }
 -- 3. What is written of it: the id, and the number in so many bytes.
 
 module _ (plain : Plain) where
-  abbrev pub idIn : ℕ
-  idIn = id_of plain.id
+  abbrev pub id_in : ℕ
+  id_in = id_of plain.id
 
   abbrev pub width_in : ℕ
   width_in = width_of (form_of plain.id)
@@ -126,23 +126,23 @@ module _ (plain : Plain) where
   abbrev pub number_in : ℕ
   number_in = number_of (form_of plain.id) plain.value
 
-  abbrev pub bytesIn : List ℕ
-  bytesIn = idIn ∷ bigEndian width_in number_in
+  abbrev pub bytes_in : List ℕ
+  bytes_in = id_in ∷ big_endian width_in number_in
 
-  abbrev pub sizeIn : ℕ
-  sizeIn = 1 + width_in
+  abbrev pub size_in : ℕ
+  size_in = 1 + width_in
 
 abbrev pub bytes_of : RawCommand → List ℕ
-bytes_of command = bytesIn (plain_of command)
+bytes_of command = bytes_in (plain_of command)
 
 -- these parts are the command's, and the bytes that are written are enough for the number
 pub record PartsIs (command : RawCommand) (r : Parts) : Type 0 where
-  pub id : r.id ≡ idIn (plain_of command)
+  pub id : r.id ≡ id_in (plain_of command)
   pub width : r.width ≡ width_in (plain_of command)
   pub number : r.number ≡ number_in (plain_of command)
   pub narrow : r.width ≤ 4
   pub below : r.number < 256 ^ r.width
 
 -- the bytes of any parts
-abbrev pub partsBytes : Parts → List ℕ
-partsBytes parts = parts.id ∷ bigEndian parts.width parts.number
+abbrev pub parts_bytes : Parts → List ℕ
+parts_bytes parts = parts.id ∷ big_endian parts.width parts.number

@@ -4,8 +4,8 @@ use Rattle.std.specs.Int.Signed.{mag}
 use Rattle.refusals.specs.Refusals.{ok}
 use Rattle.refusals.specs.OneAnswer.{ToldApart}
 use Rattle.packer.specs.Nearness.{Bytes}
-use Rattle.raw_command.specs.Commands.{Form, bare, flag, flags, half, word, signed, Value, form_of, width_of, Plain, plain_of, bytesIn}
-use Rattle.raw_command.specs.Reading.{is_forward, plainIn, identified, unpackedCommand}
+use Rattle.raw_command.specs.Commands.{Form, bare, flag, flags, half, word, signed, Value, form_of, width_of, Plain, plain_of, bytes_in}
+use Rattle.raw_command.specs.Reading.{is_forward, plain_in, identified, unpacked_command}
 
 -- The numbers of a value fit their type, as those of every `RawCommand` of the code do: a command of the logic may hold any numbers
 abbrev pub Fits : (form : Form) → Value form → Type 0
@@ -19,14 +19,14 @@ Fits signed z = mag z < 2 ^ 31
 
 pub record RawLaws : Type 0 where
   -- what is written is read
-  pub written : (plain : Plain) → (is_forward plain.id ≡ false) → Fits (form_of plain.id) plain.value → plainIn (bytesIn plain) ≡ ok plain
+  pub written : (plain : Plain) → (is_forward plain.id ≡ false) → Fits (form_of plain.id) plain.value → plain_in (bytes_in plain) ≡ ok plain
   -- what is read is what is written, and fits
-  pub read : (bytes : List ℕ) → Bytes bytes → (plain : Plain) → plainIn bytes ≡ ok plain
-      → (bytes ≡ bytesIn plain) × (Fits (form_of plain.id) plain.value × (is_forward plain.id ≡ false))
+  pub read : (bytes : List ℕ) → Bytes bytes → (plain : Plain) → plain_in bytes ≡ ok plain
+      → (bytes ≡ bytes_in plain) × (Fits (form_of plain.id) plain.value × (is_forward plain.id ≡ false))
   -- no plain command has more than five bytes
   pub narrow : (form : Form) → width_of form ≤ 4
 
 pub record OneAnswer : Type 0 where
   pub plain : ToldApart plain_of
   pub command-ids : (byte : ℕ) → ToldApart (identified byte)
-  pub unpack-command : ToldApart unpackedCommand
+  pub unpack-command : ToldApart unpacked_command

@@ -1,12 +1,12 @@
 -- What bytes are as a plain command: document 02, W2. "An empty, short or overlong payload and a flag byte above 1 are InvalidFrame. Refusals: .. 3 (an id not in
 -- `CommandId`) or 2 by the first trouble".
 use Rattle.std.specs.Prelude.{Bool, true, ◌&&◌, not, List, [], ◌∷◌, cond, ℕ, ◌+◌, ◌/◌, ◌%◌, ◌^◌, eqb, leb, ltb, length, get_or, drop}
-use Rattle.refusals.specs.Refusals.{Answer, ok, refused, decodeRefusal, invalidFrame, unknownPacket}
+use Rattle.refusals.specs.Refusals.{Answer, ok, refused, decode_refusal, invalid_frame, unknown_packet}
 use Rattle.refusals.specs.Answers.{and_then, unless}
-use Rattle.format.specs.Format.{id_of, allIds}
+use Rattle.format.specs.Format.{id_of, all_ids}
 use Rattle.format.specs.declared.CommandId.{CommandId}
 use Rattle.format.specs.declared.CommandId.TheVariants.{ForwardCan}
-use Rattle.packer.specs.Numbers.{beAt, signed_of}
+use Rattle.packer.specs.Numbers.{be_at, signed_of}
 use Rattle.raw_command.specs.Commands.{Form, bare, flag, flags, half, word, signed, Value, form_of, width_of, most_of, Plain, plain_of}
 use Rattle.raw_command.specs.declared.UnpackedCommand.{UnpackedCommand}
 use Rattle.raw_command.specs.declared.UnpackedCommand.TheVariants.{Got, Refused}
@@ -14,17 +14,17 @@ use Rattle.raw_command.specs.declared.Identified.{Identified}
 use Rattle.raw_command.specs.declared.Identified.TheVariants as i
 
 -- the command with this id, among those of a list; "3 (an id not in `CommandId`)"
-unfoldable pub idAmong : List CommandId → ℕ → Answer CommandId
-idAmong [] byte = refused (unknownPacket byte)
-idAmong (id ∷ ids) byte = cond (eqb byte (id_of id)) (ok id) (idAmong ids byte)
+unfoldable pub id_among : List CommandId → ℕ → Answer CommandId
+id_among [] byte = refused (unknown_packet byte)
+id_among (id ∷ ids) byte = cond (eqb byte (id_of id)) (ok id) (id_among ids byte)
 
-abbrev pub idNamed : ℕ → Answer CommandId
-idNamed byte = idAmong allIds byte
+abbrev pub id_named : ℕ → Answer CommandId
+id_named byte = id_among all_ids byte
 
 -- what `command_id` says of a byte
 abbrev pub identified : ℕ → Identified → Answer CommandId
 identified byte (i.Known id) = ok id
-identified byte i.Unknown = refused (unknownPacket byte)
+identified byte i.Unknown = refused (unknown_packet byte)
 
 -- the id of a hop: "34 and id by turns"
 abbrev pub is_forward : CommandId → Bool
@@ -49,20 +49,20 @@ at_most most [] = true
 at_most most (byte ∷ bytes) = leb byte most && at_most most bytes
 
 -- what bytes that begin with an id are: "short or overlong", "a flag byte above 1"
-unfoldable pub plainWith : CommandId → List ℕ → Answer Plain
-plainWith id bytes =
-    unless (eqb (length bytes) (1 + width_of (form_of id))) invalidFrame
-    (unless (at_most (most_of (form_of id)) (drop 1 bytes)) invalidFrame
-    (ok (numbered id (beAt bytes 1 (width_of (form_of id))))))
+unfoldable pub plain_with : CommandId → List ℕ → Answer Plain
+plain_with id bytes =
+    unless (eqb (length bytes) (1 + width_of (form_of id))) invalid_frame
+    (unless (at_most (most_of (form_of id)) (drop 1 bytes)) invalid_frame
+    (ok (numbered id (be_at bytes 1 (width_of (form_of id))))))
 
 -- what bytes are: "the payload from the left", and a refusal "by the first trouble". A hop is no plain command
-unfoldable pub plainIn : List ℕ → Answer Plain
-plainIn bytes =
-    unless (ltb 0 (length bytes)) invalidFrame
-    (unless (not (eqb (get_or bytes 0 0) (id_of ForwardCan))) invalidFrame
-    (and_then (idNamed (get_or bytes 0 0)) (λ id. plainWith id bytes)))
+unfoldable pub plain_in : List ℕ → Answer Plain
+plain_in bytes =
+    unless (ltb 0 (length bytes)) invalid_frame
+    (unless (not (eqb (get_or bytes 0 0) (id_of ForwardCan))) invalid_frame
+    (and_then (id_named (get_or bytes 0 0)) (λ id. plain_with id bytes)))
 
 -- what `unpack_command` says
-abbrev pub unpackedCommand : UnpackedCommand → Answer Plain
-unpackedCommand (Got command) = ok (plain_of command)
-unpackedCommand (Refused e) = refused (decodeRefusal e)
+abbrev pub unpacked_command : UnpackedCommand → Answer Plain
+unpacked_command (Got command) = ok (plain_of command)
+unpacked_command (Refused e) = refused (decode_refusal e)

@@ -1,10 +1,10 @@
 // Plain commands with the whole numbers that are sent: to bytes of a payload and back, with no float. Ports
 // `CommandId::try_from` and `Command::pack_into` of src/command.rs; document 01, "Commands", and document 02, W2.
 ghost use Rattle.std.specs.Prelude.{◌≡◌, false, ◌+◌, ◌≤◌, ◌<◌, eqb, length, get_or, drop};
-ghost use Rattle.packer.specs.Numbers.{beAt, signed_of};
+ghost use Rattle.packer.specs.Numbers.{be_at, signed_of};
 ghost use Rattle.packer.specs.Packing.{PackIs};
-ghost use Rattle.raw_command.specs.Commands.{form_of, width_of, most_of, flagByte, plain_of, PartsIs, partsBytes};
-ghost use Rattle.raw_command.specs.Reading.{idNamed, identified, is_forward, at_most, numbered, plainWith, plainIn, unpackedCommand};
+ghost use Rattle.raw_command.specs.Commands.{form_of, width_of, most_of, flag_byte, plain_of, PartsIs, parts_bytes};
+ghost use Rattle.raw_command.specs.Reading.{id_named, identified, is_forward, at_most, numbered, plain_with, plain_in, unpacked_command};
 
 use format::CommandId;
 use packer::{Packed, UnpackedU16, UnpackedU32};
@@ -72,7 +72,7 @@ fn sent(id: u8, width: usize, number: u32) -> Parts
 
 // A flag as 0 or 1.
 fn flag(set: bool) -> u32
-    ensures { (result ≡ flagByte set) × (result ≤ 1) }
+    ensures { (result ≡ flag_byte set) × (result ≤ 1) }
 {
     if set { 1 } else { 0 }
 }
@@ -132,7 +132,7 @@ pub fn parts_of(command: RawCommand) -> Parts
 // The bytes of a plain command at a position, its id first. Ports `Command::pack_into`, which leaves the id behind
 // if its value does not fit; this one then writes nothing.
 pub fn pack_parts(parts: Parts, buf: &mut [u8], pos: usize) -> Packed
-    ensures { PackIs (partsBytes parts) buf.old pos result buf.new }
+    ensures { PackIs (parts_bytes parts) buf.old pos result buf.new }
 {
     let width = parts.width;
     let room = buf.len();
@@ -148,7 +148,7 @@ pub fn pack_parts(parts: Parts, buf: &mut [u8], pos: usize) -> Packed
 
 // The command that has an id. Ports `TryFrom<u8>` of `CommandId`.
 pub fn command_id(byte: u8) -> Identified
-    ensures { identified byte result ≡ idNamed byte }
+    ensures { identified byte result ≡ id_named byte }
 {
     if byte == CommandId::FwVersion as u8 {
         return Identified::Known(CommandId::FwVersion);
@@ -264,7 +264,7 @@ fn at_most(bytes: &[u8], most: u8) -> bool
 // The four bytes behind the id.
 fn word_in(bytes: &[u8]) -> u32
     requires { 5 ≤ length bytes.now }
-    ensures { result ≡ beAt bytes.now 1 4 }
+    ensures { result ≡ be_at bytes.now 1 4 }
 {
     match packer::unpack_u32(bytes, 1) {
         UnpackedU32::Got(number, _) => number,
@@ -275,7 +275,7 @@ fn word_in(bytes: &[u8]) -> u32
 // The two bytes behind the id.
 fn half_in(bytes: &[u8]) -> u16
     requires { 3 ≤ length bytes.now }
-    ensures { result ≡ beAt bytes.now 1 2 }
+    ensures { result ≡ be_at bytes.now 1 2 }
 {
     match packer::unpack_u16(bytes, 1) {
         UnpackedU16::Got(number, _) => number,
@@ -294,7 +294,7 @@ fn flag_in(bytes: &[u8], at: usize) -> bool
 // The four bytes behind the id as a signed number.
 fn signed_in(bytes: &[u8]) -> i32
     requires { 5 ≤ length bytes.now }
-    ensures { result ≡ signed_of 4294967296 (beAt bytes.now 1 4) }
+    ensures { result ≡ signed_of 4294967296 (be_at bytes.now 1 4) }
 {
     packer::as_i32(word_in(bytes))
 }
@@ -303,7 +303,7 @@ fn signed_in(bytes: &[u8]) -> i32
 // command and does not come here; FwVersion is a filler.
 fn command_of(id: CommandId, bytes: &[u8]) -> RawCommand
     requires { (length bytes.now ≡ 1 + width_of (form_of id)) × (is_forward id ≡ false) }
-    ensures { plain_of result ≡ numbered id (beAt bytes.now 1 (width_of (form_of id))) }
+    ensures { plain_of result ≡ numbered id (be_at bytes.now 1 (width_of (form_of id))) }
 {
     match id {
         CommandId::FwVersion => RawCommand::FwVersion,
@@ -332,7 +332,7 @@ fn command_of(id: CommandId, bytes: &[u8]) -> RawCommand
 // The value behind an id, judged by what the id carries.
 fn unpack_value(id: CommandId, bytes: &[u8]) -> UnpackedCommand
     requires { is_forward id ≡ false }
-    ensures { unpackedCommand result ≡ plainWith id bytes.now }
+    ensures { unpacked_command result ≡ plain_with id bytes.now }
 {
     let carried = carried_by(id);
     if bytes.len() != 1 + carried.width {
@@ -347,7 +347,7 @@ fn unpack_value(id: CommandId, bytes: &[u8]) -> UnpackedCommand
 // The plain command that bytes are, from the id to the last: document 02, W2, "the payload from the left". A hop is no
 // plain command.
 pub fn unpack_command(bytes: &[u8]) -> UnpackedCommand
-    ensures { unpackedCommand result ≡ plainIn bytes.now }
+    ensures { unpacked_command result ≡ plain_in bytes.now }
 {
     if bytes.len() <= 0 {
         return UnpackedCommand::Refused(DecodeError::InvalidFrame);

@@ -1,11 +1,11 @@
 // Replies as their frames carry them, before any scaling: document 02, W4. The Rust reads a frame only into its scaled values. A raw reply
 // is filled by the fields' own names: begin with `blank` of a kind, take its record out, store into it and put it back.
 ghost use Rattle.std.specs.Prelude.{◌≡◌};
-ghost use Rattle.tables.specs.Tables.{widths, valuesTable};
-ghost use Rattle.packer.specs.Numbers.{numbersAt};
-ghost use Rattle.raw_telemetry.specs.Records.{rawValuesOf};
-ghost use Rattle.raw_reply.specs.RawReply.{blankRaw, withRawValues, rawAs, rawReplyOf, replyFrom};
-ghost use Rattle.raw_reply.specs.Reading.{rawRead, rawReadOf};
+ghost use Rattle.tables.specs.Tables.{widths, values_table};
+ghost use Rattle.packer.specs.Numbers.{numbers_at};
+ghost use Rattle.raw_telemetry.specs.Records.{raw_values_of};
+ghost use Rattle.raw_reply.specs.RawReply.{blank_raw, with_raw_values, raw_as, raw_reply_of, reply_from};
+ghost use Rattle.raw_reply.specs.Reading.{raw_read, raw_read_of};
 ghost use Rattle.reply.specs.declared.Kind.TheVariants as kind;
 
 use firmware::{FwInfo, RawFwVersion};
@@ -39,7 +39,7 @@ pub struct RawRead {
 
 // A raw reply of a kind, with nothing in its records.
 pub fn blank(kind: Kind) -> RawReply
-    ensures { result ≡ blankRaw kind }
+    ensures { result ≡ blank_raw kind }
 {
     RawReply {
         kind,
@@ -52,7 +52,7 @@ pub fn blank(kind: Kind) -> RawReply
 }
 
 fn with_values(kind: Kind, mask: u32, payload: &[u8], at: usize) -> RawReply
-    ensures { result ≡ withRawValues kind (rawValuesOf mask (numbersAt (widths mask valuesTable) payload.now at)) }
+    ensures { result ≡ with_raw_values kind (raw_values_of mask (numbers_at (widths mask values_table) payload.now at)) }
 {
     let raw = tables::unpack_fields(payload, at, Sort::Values, mask);
     let mut reply = blank(kind);
@@ -62,14 +62,14 @@ fn with_values(kind: Kind, mask: u32, payload: &[u8], at: usize) -> RawReply
 
 // GetValues carries no mask: it has all 22 bits.
 fn unpack_get_values(payload: &[u8]) -> RawReply
-    ensures { result ≡ rawAs kind.GetValues payload.now }
+    ensures { result ≡ raw_as kind.GetValues payload.now }
 {
     with_values(Kind::GetValues, format::ALL_VALUES, payload, 1)
 }
 
 // The fields of a masked reply follow its mask of four bytes.
 fn unpack_get_values_selective(payload: &[u8]) -> RawReply
-    ensures { result ≡ rawAs kind.GetValuesSelective payload.now }
+    ensures { result ≡ raw_as kind.GetValuesSelective payload.now }
 {
     with_values(
         Kind::GetValuesSelective,
@@ -80,7 +80,7 @@ fn unpack_get_values_selective(payload: &[u8]) -> RawReply
 }
 
 fn unpack_get_values_setup_selective(payload: &[u8]) -> RawReply
-    ensures { result ≡ rawAs kind.GetValuesSetupSelective payload.now }
+    ensures { result ≡ raw_as kind.GetValuesSetupSelective payload.now }
 {
     let mask = tables::word_at(payload, 1);
     let raw = tables::unpack_fields(payload, 5, Sort::SetupValues, mask);
@@ -90,7 +90,7 @@ fn unpack_get_values_setup_selective(payload: &[u8]) -> RawReply
 }
 
 fn unpack_get_stats(payload: &[u8]) -> RawReply
-    ensures { result ≡ rawAs kind.GetStats payload.now }
+    ensures { result ≡ raw_as kind.GetStats payload.now }
 {
     let mask = tables::word_at(payload, 1);
     let raw = tables::unpack_fields(payload, 5, Sort::Stats, mask);
@@ -100,7 +100,7 @@ fn unpack_get_stats(payload: &[u8]) -> RawReply
 }
 
 fn unpack_fw_version(payload: &[u8]) -> RawReply
-    ensures { result ≡ rawAs kind.FwVersion payload.now }
+    ensures { result ≡ raw_as kind.FwVersion payload.now }
 {
     let mut reply = blank(Kind::FwVersion);
     reply.fw_version = firmware::unpack_raw_fw_version(payload);
@@ -108,7 +108,7 @@ fn unpack_fw_version(payload: &[u8]) -> RawReply
 }
 
 fn unpack_fw_info(payload: &[u8]) -> RawReply
-    ensures { result ≡ rawAs kind.FwInfo payload.now }
+    ensures { result ≡ raw_as kind.FwInfo payload.now }
 {
     let mut reply = blank(Kind::FwInfo);
     reply.fw_info = firmware::unpack_fw_info(payload);
@@ -117,7 +117,7 @@ fn unpack_fw_info(payload: &[u8]) -> RawReply
 
 // The raw reply that a good frame's payload carries, by its id.
 fn raw_from(payload: &[u8]) -> RawReply
-    ensures { result ≡ rawReplyOf payload.now }
+    ensures { result ≡ raw_reply_of payload.now }
 {
     let id = tables::byte_at(payload, 0);
     match id {
@@ -134,7 +134,7 @@ fn raw_from(payload: &[u8]) -> RawReply
 
 // Reads the reply frame at the front of `buf` into its raw reply. Refuses as `decode` does, with the same values, and gives the same count.
 pub fn read_reply(buf: &[u8]) -> RawRead
-    ensures { rawRead result ≡ rawReadOf buf.now }
+    ensures { raw_read result ≡ raw_read_of buf.now }
 {
     match judge::judge(buf) {
         Consumed::To(count) => RawRead {
@@ -150,7 +150,7 @@ pub fn read_reply(buf: &[u8]) -> RawRead
 
 // The reply with its scaled values: of what `read_reply` read, the one that `decode` gives of the same frame.
 pub fn reply_of(raw: RawReply) -> CommandReply
-    ensures { result ≡ replyFrom raw }
+    ensures { result ≡ reply_from raw }
 {
     let kind = raw.kind;
     let values = raw.values;

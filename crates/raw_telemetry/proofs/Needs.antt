@@ -6,11 +6,11 @@ use lib.Signed.{mag}
 use mir.Val.{to_z, of_z}
 use mir.Syntax.{w16, w32}
 use mir.ValLaws.{to_z-of_z}
-use Rattle.packer.specs.Numbers.{unsignedOf}
-use Rattle.format.specs.Format.{tableRows}
+use Rattle.packer.specs.Numbers.{unsigned_of}
+use Rattle.format.specs.Format.{table_rows}
 use lib.Dec.{T, ltb, lit<}
 
-pub row : {C : Type 0} {k : ℕ} → T (ltb k tableRows) → C → k < tableRows
+pub row : {C : Type 0} {k : ℕ} → T (ltb k table_rows) → C → k < table_rows
 row t c = lit< t
 
 pub free : {C K : Type 0} → C → K → Unit {0}
@@ -21,8 +21,8 @@ pub called-half : {z v : ℤ} → mag z < 2 ^ 15 → z ≡ v → to_z w16 (of_z 
 called-half {z} fits is = to_z-of_z w16 z (record { sfits = fits }) ∙ is
 
 -- the bits of a number out of a record
-pub sent-half : (z : ℤ) {n : ℕ} → mag z < 2 ^ 15 → n ≡ unsignedOf (256 ^ 2) (to_z w16 (of_z w16 z)) → n ≡ unsignedOf (256 ^ 2) z
-sent-half z fits is = is ∙ ap (unsignedOf (256 ^ 2)) (to_z-of_z w16 z (record { sfits = fits }))
+pub sent-half : (z : ℤ) {n : ℕ} → mag z < 2 ^ 15 → n ≡ unsigned_of (256 ^ 2) (to_z w16 (of_z w16 z)) → n ≡ unsigned_of (256 ^ 2) z
+sent-half z fits is = is ∙ ap (unsigned_of (256 ^ 2)) (to_z-of_z w16 z (record { sfits = fits }))
 
-pub sent_word : (z : ℤ) {n : ℕ} → mag z < 2 ^ 31 → n ≡ unsignedOf (256 ^ 4) (to_z w32 (of_z w32 z)) → n ≡ unsignedOf (256 ^ 4) z
-sent_word z fits is = is ∙ ap (unsignedOf (256 ^ 4)) (to_z-of_z w32 z (record { sfits = fits }))
+pub sent_word : (z : ℤ) {n : ℕ} → mag z < 2 ^ 31 → n ≡ unsigned_of (256 ^ 4) (to_z w32 (of_z w32 z)) → n ≡ unsigned_of (256 ^ 4) z
+sent_word z fits is = is ∙ ap (unsigned_of (256 ^ 4)) (to_z-of_z w32 z (record { sfits = fits }))

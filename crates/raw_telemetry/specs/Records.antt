@@ -1,14 +1,14 @@
 -- The three raw records by the rows of their tables, each field by its name: GetValues and GetValuesSelective, GetValuesSetupSelective, GetStats.
 use Rattle.std.specs.Prelude.{List, [], ℕ}
-use Rattle.tables.specs.Tables.{valuesTable, setupTable, statsTable}
+use Rattle.tables.specs.Tables.{values_table, setup_table, stats_table}
 use Rattle.raw_telemetry.specs.Rows.{Rows, ◌▹◌, row, rows_from}
 use Rattle.raw_telemetry.specs.declared.RawValues.{RawValues}
 use Rattle.raw_telemetry.specs.declared.RawSetupValues.{RawSetupValues}
 use Rattle.raw_telemetry.specs.declared.RawStats.{RawStats}
 
 -- the rows of a record
-abbrev pub valuesRows : RawValues → Rows valuesTable
-valuesRows v =
+abbrev pub values_rows : RawValues → Rows values_table
+values_rows v =
     v.temp_mosfet
     ▹ v.temp_motor
     ▹ v.avg_current_motor
@@ -36,47 +36,47 @@ valuesRows v =
     ▹ tt
 
 -- the record of a mask and rows
-abbrev pub valuesBy : ℕ → Rows valuesTable → RawValues
-valuesBy mask rows =
+abbrev pub values_by : ℕ → Rows values_table → RawValues
+values_by mask rows =
     record {
       mask = mask;
-      temp_mosfet = row valuesTable rows 0;
-      temp_motor = row valuesTable rows 1;
-      avg_current_motor = row valuesTable rows 2;
-      avg_current_input = row valuesTable rows 3;
-      avg_current_d = row valuesTable rows 4;
-      avg_current_q = row valuesTable rows 5;
-      duty_cycle = row valuesTable rows 6;
-      rpm = row valuesTable rows 7;
-      voltage_in = row valuesTable rows 8;
-      amp_hours = row valuesTable rows 9;
-      amp_hours_charged = row valuesTable rows 10;
-      watt_hours = row valuesTable rows 11;
-      watt_hours_charged = row valuesTable rows 12;
-      tachometer = row valuesTable rows 13;
-      tachometer_abs = row valuesTable rows 14;
-      fault_code = row valuesTable rows 15;
-      pid_pos = row valuesTable rows 16;
-      controller_id = row valuesTable rows 17;
-      temp_mosfet1 = row valuesTable rows 18;
-      temp_mosfet2 = row valuesTable rows 19;
-      temp_mosfet3 = row valuesTable rows 20;
-      avg_voltage_d = row valuesTable rows 21;
-      avg_voltage_q = row valuesTable rows 22;
-      status = row valuesTable rows 23;
+      temp_mosfet = row values_table rows 0;
+      temp_motor = row values_table rows 1;
+      avg_current_motor = row values_table rows 2;
+      avg_current_input = row values_table rows 3;
+      avg_current_d = row values_table rows 4;
+      avg_current_q = row values_table rows 5;
+      duty_cycle = row values_table rows 6;
+      rpm = row values_table rows 7;
+      voltage_in = row values_table rows 8;
+      amp_hours = row values_table rows 9;
+      amp_hours_charged = row values_table rows 10;
+      watt_hours = row values_table rows 11;
+      watt_hours_charged = row values_table rows 12;
+      tachometer = row values_table rows 13;
+      tachometer_abs = row values_table rows 14;
+      fault_code = row values_table rows 15;
+      pid_pos = row values_table rows 16;
+      controller_id = row values_table rows 17;
+      temp_mosfet1 = row values_table rows 18;
+      temp_mosfet2 = row values_table rows 19;
+      temp_mosfet3 = row values_table rows 20;
+      avg_voltage_d = row values_table rows 21;
+      avg_voltage_q = row values_table rows 22;
+      status = row values_table rows 23;
     }
 
 -- from the raw numbers of the rows
-unfoldable pub rawValuesOf : ℕ → List ℕ → RawValues
-rawValuesOf mask raws = valuesBy mask (rows_from valuesTable raws 0)
+unfoldable pub raw_values_of : ℕ → List ℕ → RawValues
+raw_values_of mask raws = values_by mask (rows_from values_table raws 0)
 
 -- with nothing in it: no bit of a mask and no raw number
-unfoldable pub noRawValues : RawValues
-noRawValues = rawValuesOf 0 []
+unfoldable pub no_raw_values : RawValues
+no_raw_values = raw_values_of 0 []
 
 -- the rows of a record
-abbrev pub setupRows : RawSetupValues → Rows setupTable
-setupRows v =
+abbrev pub setup_rows : RawSetupValues → Rows setup_table
+setup_rows v =
     v.temp_mosfet
     ▹ v.temp_motor
     ▹ v.avg_current_motor
@@ -102,45 +102,45 @@ setupRows v =
     ▹ tt
 
 -- the record of a mask and rows
-abbrev pub setupBy : ℕ → Rows setupTable → RawSetupValues
-setupBy mask rows =
+abbrev pub setup_by : ℕ → Rows setup_table → RawSetupValues
+setup_by mask rows =
     record {
       mask = mask;
-      temp_mosfet = row setupTable rows 0;
-      temp_motor = row setupTable rows 1;
-      avg_current_motor = row setupTable rows 2;
-      avg_current_input = row setupTable rows 3;
-      duty_cycle = row setupTable rows 4;
-      rpm = row setupTable rows 5;
-      speed = row setupTable rows 6;
-      voltage_in = row setupTable rows 7;
-      battery_level = row setupTable rows 8;
-      amp_hours = row setupTable rows 9;
-      amp_hours_charged = row setupTable rows 10;
-      watt_hours = row setupTable rows 11;
-      watt_hours_charged = row setupTable rows 12;
-      distance = row setupTable rows 13;
-      distance_abs = row setupTable rows 14;
-      pid_pos = row setupTable rows 15;
-      fault_code = row setupTable rows 16;
-      controller_id = row setupTable rows 17;
-      num_vescs = row setupTable rows 18;
-      watt_hours_battery_left = row setupTable rows 19;
-      odometer = row setupTable rows 20;
-      uptime_ms = row setupTable rows 21;
+      temp_mosfet = row setup_table rows 0;
+      temp_motor = row setup_table rows 1;
+      avg_current_motor = row setup_table rows 2;
+      avg_current_input = row setup_table rows 3;
+      duty_cycle = row setup_table rows 4;
+      rpm = row setup_table rows 5;
+      speed = row setup_table rows 6;
+      voltage_in = row setup_table rows 7;
+      battery_level = row setup_table rows 8;
+      amp_hours = row setup_table rows 9;
+      amp_hours_charged = row setup_table rows 10;
+      watt_hours = row setup_table rows 11;
+      watt_hours_charged = row setup_table rows 12;
+      distance = row setup_table rows 13;
+      distance_abs = row setup_table rows 14;
+      pid_pos = row setup_table rows 15;
+      fault_code = row setup_table rows 16;
+      controller_id = row setup_table rows 17;
+      num_vescs = row setup_table rows 18;
+      watt_hours_battery_left = row setup_table rows 19;
+      odometer = row setup_table rows 20;
+      uptime_ms = row setup_table rows 21;
     }
 
 -- from the raw numbers of the rows
-unfoldable pub rawSetupValuesOf : ℕ → List ℕ → RawSetupValues
-rawSetupValuesOf mask raws = setupBy mask (rows_from setupTable raws 0)
+unfoldable pub raw_setup_values_of : ℕ → List ℕ → RawSetupValues
+raw_setup_values_of mask raws = setup_by mask (rows_from setup_table raws 0)
 
 -- with nothing in it: no bit of a mask and no raw number
-unfoldable pub noRawSetupValues : RawSetupValues
-noRawSetupValues = rawSetupValuesOf 0 []
+unfoldable pub no_raw_setup_values : RawSetupValues
+no_raw_setup_values = raw_setup_values_of 0 []
 
 -- the rows of a record
-abbrev pub statsRows : RawStats → Rows statsTable
-statsRows v =
+abbrev pub stats_rows : RawStats → Rows stats_table
+stats_rows v =
     v.speed_avg
     ▹ v.speed_max
     ▹ v.power_avg
@@ -155,27 +155,27 @@ statsRows v =
     ▹ tt
 
 -- the record of a mask and rows
-abbrev pub statsBy : ℕ → Rows statsTable → RawStats
-statsBy mask rows =
+abbrev pub stats_by : ℕ → Rows stats_table → RawStats
+stats_by mask rows =
     record {
       mask = mask;
-      speed_avg = row statsTable rows 0;
-      speed_max = row statsTable rows 1;
-      power_avg = row statsTable rows 2;
-      power_max = row statsTable rows 3;
-      current_avg = row statsTable rows 4;
-      current_max = row statsTable rows 5;
-      temp_mosfet_avg = row statsTable rows 6;
-      temp_mosfet_max = row statsTable rows 7;
-      temp_motor_avg = row statsTable rows 8;
-      temp_motor_max = row statsTable rows 9;
-      count_time = row statsTable rows 10;
+      speed_avg = row stats_table rows 0;
+      speed_max = row stats_table rows 1;
+      power_avg = row stats_table rows 2;
+      power_max = row stats_table rows 3;
+      current_avg = row stats_table rows 4;
+      current_max = row stats_table rows 5;
+      temp_mosfet_avg = row stats_table rows 6;
+      temp_mosfet_max = row stats_table rows 7;
+      temp_motor_avg = row stats_table rows 8;
+      temp_motor_max = row stats_table rows 9;
+      count_time = row stats_table rows 10;
     }
 
 -- from the raw numbers of the rows
-unfoldable pub rawStatsOf : ℕ → List ℕ → RawStats
-rawStatsOf mask raws = statsBy mask (rows_from statsTable raws 0)
+unfoldable pub raw_stats_of : ℕ → List ℕ → RawStats
+raw_stats_of mask raws = stats_by mask (rows_from stats_table raws 0)
 
 -- with nothing in it: no bit of a mask and no raw number
-unfoldable pub noRawStats : RawStats
-noRawStats = rawStatsOf 0 []
+unfoldable pub no_raw_stats : RawStats
+no_raw_stats = raw_stats_of 0 []

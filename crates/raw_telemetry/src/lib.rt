@@ -1,13 +1,13 @@
 // Telemetry as the frames carry it: the records of crate `telemetry` before any scaling, under the same field names. The Rust has no such
-// records. Document 02, W4: "whole numbers before scaling, floats by their bits, flag and kind bytes as carried". A half (hS of document 01)
-// is an i16 and a word (wS) an i32, so that every record fits its frame. Here too the walk over the mask stands in crate `tables`: a record
+// records. Document 02, W4: "whole numbers before scaling, floats by their bits, flag and kind bytes as carried". A half (h_s of document 01)
+// is an i16 and a word (w_s) an i32, so that every record fits its frame. Here too the walk over the mask stands in crate `tables`: a record
 // becomes a number for each row of its table, and back.
 ghost use Rattle.std.specs.Prelude.{◌≡◌, ◌%◌, ◌<◌};
 ghost use Rattle.packer.specs.Numbers.{signed_of};
-ghost use Rattle.tables.specs.Tables.{valuesTable, setupTable, statsTable};
+ghost use Rattle.tables.specs.Tables.{values_table, setup_table, stats_table};
 ghost use Rattle.tables.specs.Rows.{padded};
-ghost use Rattle.raw_telemetry.specs.Rows.{numbersOf};
-ghost use Rattle.raw_telemetry.specs.Records.{valuesRows, setupRows, statsRows, rawValuesOf, rawSetupValuesOf, rawStatsOf, noRawValues, noRawSetupValues, noRawStats};
+ghost use Rattle.raw_telemetry.specs.Rows.{numbers_of};
+ghost use Rattle.raw_telemetry.specs.Records.{values_rows, setup_rows, stats_rows, raw_values_of, raw_setup_values_of, raw_stats_of, no_raw_values, no_raw_setup_values, no_raw_stats};
 
 // What GetValues and GetValuesSelective carry, and the mask, whose bits are those of `ValuesMask`. GetValues carries no mask.
 #[derive(Drop)]
@@ -84,7 +84,7 @@ pub struct RawStats {
     pub count_time: u32,
 }
 
-// hS: the lowest 16 bits, signed.
+// h_s: the lowest 16 bits, signed.
 fn half(raw: u32) -> i16
     ensures { result ≡ signed_of 65536 (raw % 65536) }
 {
@@ -107,7 +107,7 @@ fn wide(byte: u8) -> u32
 
 // The record of GetValues and GetValuesSelective with nothing in it.
 pub fn no_values() -> RawValues
-    ensures { result ≡ noRawValues }
+    ensures { result ≡ no_raw_values }
 {
     RawValues {
         mask: 0,
@@ -140,7 +140,7 @@ pub fn no_values() -> RawValues
 
 // The record of a mask, and of the raw numbers that the walk over it read, a row of the table each.
 pub fn values_of(mask: u32, raw: [u32; format::TABLE_ROWS]) -> RawValues
-    ensures { result ≡ rawValuesOf mask raw }
+    ensures { result ≡ raw_values_of mask raw }
 {
     RawValues {
         mask,
@@ -173,7 +173,7 @@ pub fn values_of(mask: u32, raw: [u32; format::TABLE_ROWS]) -> RawValues
 
 // And back: the number of each row, as it is sent where the mask has the row's bit; zeros past the last row of a shorter table.
 pub fn values_numbers(values: RawValues) -> [u32; format::TABLE_ROWS]
-    ensures { result ≡ padded (numbersOf valuesTable (valuesRows values)) }
+    ensures { result ≡ padded (numbers_of values_table (values_rows values)) }
 {
     [
         packer::as_u16(values.temp_mosfet),
@@ -205,7 +205,7 @@ pub fn values_numbers(values: RawValues) -> [u32; format::TABLE_ROWS]
 
 // The record of GetValuesSetupSelective with nothing in it.
 pub fn no_setup_values() -> RawSetupValues
-    ensures { result ≡ noRawSetupValues }
+    ensures { result ≡ no_raw_setup_values }
 {
     RawSetupValues {
         mask: 0,
@@ -236,7 +236,7 @@ pub fn no_setup_values() -> RawSetupValues
 
 // The record of a mask, and of the raw numbers that the walk over it read, a row of the table each.
 pub fn setup_values_of(mask: u32, raw: [u32; format::TABLE_ROWS]) -> RawSetupValues
-    ensures { result ≡ rawSetupValuesOf mask raw }
+    ensures { result ≡ raw_setup_values_of mask raw }
 {
     RawSetupValues {
         mask,
@@ -267,7 +267,7 @@ pub fn setup_values_of(mask: u32, raw: [u32; format::TABLE_ROWS]) -> RawSetupVal
 
 // And back: the number of each row, as it is sent where the mask has the row's bit; zeros past the last row of a shorter table.
 pub fn setup_values_numbers(values: RawSetupValues) -> [u32; format::TABLE_ROWS]
-    ensures { result ≡ padded (numbersOf setupTable (setupRows values)) }
+    ensures { result ≡ padded (numbers_of setup_table (setup_rows values)) }
 {
     [
         packer::as_u16(values.temp_mosfet),
@@ -299,7 +299,7 @@ pub fn setup_values_numbers(values: RawSetupValues) -> [u32; format::TABLE_ROWS]
 
 // The record of GetStats with nothing in it.
 pub fn no_stats() -> RawStats
-    ensures { result ≡ noRawStats }
+    ensures { result ≡ no_raw_stats }
 {
     RawStats {
         mask: 0,
@@ -319,7 +319,7 @@ pub fn no_stats() -> RawStats
 
 // The record of a mask, and of the raw numbers that the walk over it read, a row of the table each.
 pub fn stats_of(mask: u32, raw: [u32; format::TABLE_ROWS]) -> RawStats
-    ensures { result ≡ rawStatsOf mask raw }
+    ensures { result ≡ raw_stats_of mask raw }
 {
     RawStats {
         mask,
@@ -339,7 +339,7 @@ pub fn stats_of(mask: u32, raw: [u32; format::TABLE_ROWS]) -> RawStats
 
 // And back: the number of each row, as it is sent where the mask has the row's bit; zeros past the last row of a shorter table.
 pub fn stats_numbers(stats: RawStats) -> [u32; format::TABLE_ROWS]
-    ensures { result ≡ padded (numbersOf statsTable (statsRows stats)) }
+    ensures { result ≡ padded (numbers_of stats_table (stats_rows stats)) }
 {
     [
         stats.speed_avg,

@@ -3,14 +3,14 @@
 use mathlib.Core.Path.{◌≡◌, refl, ap}
 use mathlib.Core.Bool.{Bool, true, false}
 use Prim.Native.Nat.{ℕ}
-use Rattle.refusals.specs.Refusals.{Refusal, Answer, ok, refused, incompleteData}
+use Rattle.refusals.specs.Refusals.{Refusal, Answer, ok, refused, incomplete_data}
 use Rattle.refusals.proofs.Different.{none}
 use Rattle.refusals.specs.Answers.{and_then, unless}
 
 -- ---- no IncompleteData
 
 abbrev pub Known : {A : Type 0} → Answer A → Type 0
-Known answer = answer ≡ refused incompleteData → ⊥
+Known answer = answer ≡ refused incomplete_data → ⊥
 
 number_of : {A : Type 0} → Answer A → ℕ
 number_of (ok value) = 0

@@ -3,7 +3,7 @@ use mathlib.Core.Path.{◌≡◌, refl, sym, ap, ◌∙◌}
 use mathlib.Core.Bool.{cond}
 use lib.Dec.{eqb}
 use lib.ListN.{get_or}
-use Rattle.refusals.specs.Refusals.{Refusal, Answer, ok, refused, decodeRefusal, encodeRefusal, writeBackRefusal, replyWriteRefusal, feedRefusal, consumed}
+use Rattle.refusals.specs.Refusals.{Refusal, Answer, ok, refused, decode_refusal, encode_refusal, write_back_refusal, reply_write_refusal, feed_refusal, consumed}
 use Rattle.refusals.specs.OneAnswer.{ToldApart, OneAnswer}
 use Rattle.refusals.specs.declared.DecodeError.{DecodeError}
 use Rattle.refusals.specs.declared.DecodeError.TheVariants.{IncompleteData, InvalidFrame, UnknownPacket, ChecksumMismatch}
@@ -23,77 +23,77 @@ pub told-apart : {A B : Type 0} (f : A → B) (back : B → A) → ((a : A) → 
 told-apart f back same a b e = sym (same a) ∙ ap back e ∙ same b
 
 -- the error with a number, and with the values returned with it
-pub decodeBack : Refusal → DecodeError
-decodeBack r =
+pub decode_back : Refusal → DecodeError
+decode_back r =
     cond (eqb r.number 1) IncompleteData
     (cond (eqb r.number 2) InvalidFrame
     (cond (eqb r.number 3) (UnknownPacket (get_or r.values 0 0)) (ChecksumMismatch (get_or r.values 0 0) (get_or r.values 1 0))))
 
-pub encodeBack : Refusal → EncodeError
-encodeBack r = cond (eqb r.number 5) BufferTooSmall PayloadTooLong
+pub encode_back : Refusal → EncodeError
+encode_back r = cond (eqb r.number 5) BufferTooSmall PayloadTooLong
 
-pub decode-back : (e : DecodeError) → decodeBack (decodeRefusal e) ≡ e
-unfolding decodeBack
+pub decode-back : (e : DecodeError) → decode_back (decode_refusal e) ≡ e
+unfolding decode_back
 decode-back IncompleteData = refl
 decode-back InvalidFrame = refl
 decode-back (UnknownPacket id) = refl
 decode-back (ChecksumMismatch expected actual) = refl
 
-pub encode-back : (e : EncodeError) → encodeBack (encodeRefusal e) ≡ e
-unfolding encodeBack
+pub encode-back : (e : EncodeError) → encode_back (encode_refusal e) ≡ e
+unfolding encode_back
 encode-back BufferTooSmall = refl
 encode-back PayloadTooLong = refl
 
-pub writeBackBack : Refusal → WriteBackError
-writeBackBack r = cond (eqb r.number 2) w.InvalidFrame (cond (eqb r.number 6) w.PayloadTooLong w.BufferTooSmall)
+pub write_back_back : Refusal → WriteBackError
+write_back_back r = cond (eqb r.number 2) w.InvalidFrame (cond (eqb r.number 6) w.PayloadTooLong w.BufferTooSmall)
 
-pub write-back-back : (e : WriteBackError) → writeBackBack (writeBackRefusal e) ≡ e
-unfolding writeBackBack
+pub write-back-back : (e : WriteBackError) → write_back_back (write_back_refusal e) ≡ e
+unfolding write_back_back
 write-back-back w.InvalidFrame = refl
 write-back-back w.PayloadTooLong = refl
 write-back-back w.BufferTooSmall = refl
 
-pub replyWriteBack : Refusal → ReplyWriteError
-replyWriteBack why = cond (eqb why.number 8) r.UnknownMaskBits (cond (eqb why.number 7) r.BadName r.BufferTooSmall)
+pub reply_write_back : Refusal → ReplyWriteError
+reply_write_back why = cond (eqb why.number 8) r.UnknownMaskBits (cond (eqb why.number 7) r.BadName r.BufferTooSmall)
 
-pub reply-write-back : (e : ReplyWriteError) → replyWriteBack (replyWriteRefusal e) ≡ e
-unfolding replyWriteBack
+pub reply-write-back : (e : ReplyWriteError) → reply_write_back (reply_write_refusal e) ≡ e
+unfolding reply_write_back
 reply-write-back r.UnknownMaskBits = refl
 reply-write-back r.BadName = refl
 reply-write-back r.BufferTooSmall = refl
 
 -- there is only one
-pub feedBack : Refusal → FeedError
-feedBack r = NotDrained
+pub feed_back : Refusal → FeedError
+feed_back r = NotDrained
 
-pub feed-back : (e : FeedError) → feedBack (feedRefusal e) ≡ e
-unfolding feedBack
+pub feed-back : (e : FeedError) → feed_back (feed_refusal e) ≡ e
+unfolding feed_back
 feed-back NotDrained = refl
 
 -- an answer made again from its map's value: `got` of a value, `err` of the error with a refusal's number
-unfoldable pub readBack : {A R : Type 0} → (A → R) → (DecodeError → R) → Answer A → R
-readBack got err (ok value) = got value
-readBack got err (refused why) = err (decodeBack why)
+unfoldable pub read_back : {A R : Type 0} → (A → R) → (DecodeError → R) → Answer A → R
+read_back got err (ok value) = got value
+read_back got err (refused why) = err (decode_back why)
 
-unfoldable pub writeBack : {A R : Type 0} → (A → R) → (EncodeError → R) → Answer A → R
-writeBack got err (ok value) = got value
-writeBack got err (refused why) = err (encodeBack why)
+unfoldable pub write_back : {A R : Type 0} → (A → R) → (EncodeError → R) → Answer A → R
+write_back got err (ok value) = got value
+write_back got err (refused why) = err (encode_back why)
 
-consumed-back : (a : Consumed) → readBack c.To c.Refused (consumed a) ≡ a
-unfolding readBack
+consumed-back : (a : Consumed) → read_back c.To c.Refused (consumed a) ≡ a
+unfolding read_back
 consumed-back (c.To next) = refl
 consumed-back (c.Refused e) = ap c.Refused (decode-back e)
 
 pub consumed-unique : ToldApart consumed
-consumed-unique = told-apart consumed (readBack c.To c.Refused) consumed-back
+consumed-unique = told-apart consumed (read_back c.To c.Refused) consumed-back
 
 pub one_answer : OneAnswer
 one_answer =
     record {
-      decode-errors = told-apart decodeRefusal decodeBack decode-back;
-      encode-errors = told-apart encodeRefusal encodeBack encode-back;
-      write-back-errors = told-apart writeBackRefusal writeBackBack write-back-back;
-      reply-write-errors = told-apart replyWriteRefusal replyWriteBack reply-write-back;
-      feed-errors = told-apart feedRefusal feedBack feed-back;
+      decode-errors = told-apart decode_refusal decode_back decode-back;
+      encode-errors = told-apart encode_refusal encode_back encode-back;
+      write-back-errors = told-apart write_back_refusal write_back_back write-back-back;
+      reply-write-errors = told-apart reply_write_refusal reply_write_back reply-write-back;
+      feed-errors = told-apart feed_refusal feed_back feed-back;
       consumes = consumed-unique;
     }

@@ -13,6 +13,6 @@ unless true why next = next
 unless false why next = refused why
 
 -- the place that is given, or another
-abbrev pub placeOr : ℕ → Answer ℕ → ℕ
-placeOr other (ok place) = place
-placeOr other (refused why) = other
+abbrev pub place_or : ℕ → Answer ℕ → ℕ
+place_or other (ok place) = place
+place_or other (refused why) = other

@@ -20,40 +20,40 @@ pub record Refusal : Type 0 where
   pub values : List ℕ
 
 -- 1 IncompleteData: nothing
-abbrev pub incompleteData : Refusal
-incompleteData = record { number = 1; values = [] }
+abbrev pub incomplete_data : Refusal
+incomplete_data = record { number = 1; values = [] }
 
 -- 2 InvalidFrame: nothing
-abbrev pub invalidFrame : Refusal
-invalidFrame = record { number = 2; values = [] }
+abbrev pub invalid_frame : Refusal
+invalid_frame = record { number = 2; values = [] }
 
 -- 3 UnknownPacket: the id byte
-abbrev pub unknownPacket : ℕ → Refusal
-unknownPacket id = record { number = 3; values = id ∷ [] }
+abbrev pub unknown_packet : ℕ → Refusal
+unknown_packet id = record { number = 3; values = id ∷ [] }
 
 -- 4 ChecksumMismatch: expected = the two bytes carried, actual = the sum computed
-abbrev pub checksumMismatch : ℕ → ℕ → Refusal
-checksumMismatch expected actual = record { number = 4; values = expected ∷ actual ∷ [] }
+abbrev pub checksum_mismatch : ℕ → ℕ → Refusal
+checksum_mismatch expected actual = record { number = 4; values = expected ∷ actual ∷ [] }
 
 -- 5 BufferTooSmall: nothing; buffer unchanged
-abbrev pub bufferTooSmall : Refusal
-bufferTooSmall = record { number = 5; values = [] }
+abbrev pub buffer_too_small : Refusal
+buffer_too_small = record { number = 5; values = [] }
 
 -- 6 PayloadTooLong (added): nothing; buffer unchanged
-abbrev pub payloadTooLong : Refusal
-payloadTooLong = record { number = 6; values = [] }
+abbrev pub payload_too_long : Refusal
+payload_too_long = record { number = 6; values = [] }
 
 -- 7 BadName (W4): nothing; buffer unchanged
-abbrev pub badName : Refusal
-badName = record { number = 7; values = [] }
+abbrev pub bad_name : Refusal
+bad_name = record { number = 7; values = [] }
 
 -- 8 UnknownMaskBits (W4): nothing; buffer unchanged
-abbrev pub unknownMaskBits : Refusal
-unknownMaskBits = record { number = 8; values = [] }
+abbrev pub unknown_mask_bits : Refusal
+unknown_mask_bits = record { number = 8; values = [] }
 
 -- 15 NotDrained (W12): nothing; nothing changed
-abbrev pub notDrained : Refusal
-notDrained = record { number = 15; values = [] }
+abbrev pub not_drained : Refusal
+not_drained = record { number = 15; values = [] }
 
 -- what a call answers: a value, or a refusal
 pub data Answer (A : Type 0) : Type 0 where
@@ -61,34 +61,34 @@ pub data Answer (A : Type 0) : Type 0 where
   refused : Refusal → Answer A
 
 -- the refusals of reading
-abbrev pub decodeRefusal : DecodeError → Refusal
-decodeRefusal IncompleteData = incompleteData
-decodeRefusal InvalidFrame = invalidFrame
-decodeRefusal (UnknownPacket id) = unknownPacket id
-decodeRefusal (ChecksumMismatch expected actual) = checksumMismatch expected actual
+abbrev pub decode_refusal : DecodeError → Refusal
+decode_refusal IncompleteData = incomplete_data
+decode_refusal InvalidFrame = invalid_frame
+decode_refusal (UnknownPacket id) = unknown_packet id
+decode_refusal (ChecksumMismatch expected actual) = checksum_mismatch expected actual
 
 -- how far a slice was read, or the refusal
 abbrev pub consumed : Consumed → Answer ℕ
 consumed (c.To next) = ok next
-consumed (c.Refused e) = refused (decodeRefusal e)
+consumed (c.Refused e) = refused (decode_refusal e)
 
 -- the refusals of writing
-abbrev pub encodeRefusal : EncodeError → Refusal
-encodeRefusal BufferTooSmall = bufferTooSmall
-encodeRefusal PayloadTooLong = payloadTooLong
+abbrev pub encode_refusal : EncodeError → Refusal
+encode_refusal BufferTooSmall = buffer_too_small
+encode_refusal PayloadTooLong = payload_too_long
 
 -- the refusals of writing a command back
-abbrev pub writeBackRefusal : WriteBackError → Refusal
-writeBackRefusal w.InvalidFrame = invalidFrame
-writeBackRefusal w.PayloadTooLong = payloadTooLong
-writeBackRefusal w.BufferTooSmall = bufferTooSmall
+abbrev pub write_back_refusal : WriteBackError → Refusal
+write_back_refusal w.InvalidFrame = invalid_frame
+write_back_refusal w.PayloadTooLong = payload_too_long
+write_back_refusal w.BufferTooSmall = buffer_too_small
 
 -- the refusals of writing a reply
-abbrev pub replyWriteRefusal : ReplyWriteError → Refusal
-replyWriteRefusal r.UnknownMaskBits = unknownMaskBits
-replyWriteRefusal r.BadName = badName
-replyWriteRefusal r.BufferTooSmall = bufferTooSmall
+abbrev pub reply_write_refusal : ReplyWriteError → Refusal
+reply_write_refusal r.UnknownMaskBits = unknown_mask_bits
+reply_write_refusal r.BadName = bad_name
+reply_write_refusal r.BufferTooSmall = buffer_too_small
 
 -- the refusals of the gateway feed
-abbrev pub feedRefusal : FeedError → Refusal
-feedRefusal NotDrained = notDrained
+abbrev pub feed_refusal : FeedError → Refusal
+feed_refusal NotDrained = not_drained

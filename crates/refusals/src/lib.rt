@@ -1,7 +1,7 @@
 // Why an answer is no. Ports `DecodeError` and `EncodeError` of src/command.rs; document 01, "Six
 // refusals", gives each its number and says what is returned with it. Document 02 adds the rest.
 ghost use Rattle.std.specs.Prelude.{◌≡◌};
-ghost use Rattle.refusals.specs.Refusals.{decodeRefusal, encodeRefusal, writeBackRefusal, replyWriteRefusal, feedRefusal};
+ghost use Rattle.refusals.specs.Refusals.{decode_refusal, encode_refusal, write_back_refusal, reply_write_refusal, feed_refusal};
 
 // Why a slice is not read.
 #[derive(Drop)]
@@ -51,7 +51,7 @@ pub enum FeedError {
 impl DecodeError {
     // Document 01's number.
     pub fn number(self) -> u8
-        ensures { result ≡ (decodeRefusal self).number }
+        ensures { result ≡ (decode_refusal self).number }
     {
         match self {
             DecodeError::IncompleteData => 1,
@@ -68,7 +68,7 @@ impl DecodeError {
 impl EncodeError {
     // Document 01's number.
     pub fn number(self) -> u8
-        ensures { result ≡ (encodeRefusal self).number }
+        ensures { result ≡ (encode_refusal self).number }
     {
         match self {
             EncodeError::BufferTooSmall => 5,
@@ -80,7 +80,7 @@ impl EncodeError {
 impl WriteBackError {
     // Document 01's number.
     pub fn number(self) -> u8
-        ensures { result ≡ (writeBackRefusal self).number }
+        ensures { result ≡ (write_back_refusal self).number }
     {
         match self {
             WriteBackError::InvalidFrame => 2,
@@ -93,7 +93,7 @@ impl WriteBackError {
 impl ReplyWriteError {
     // Document 02's number.
     pub fn number(self) -> u8
-        ensures { result ≡ (replyWriteRefusal self).number }
+        ensures { result ≡ (reply_write_refusal self).number }
     {
         match self {
             ReplyWriteError::UnknownMaskBits => 8,
@@ -106,7 +106,7 @@ impl ReplyWriteError {
 impl FeedError {
     // Document 02's number.
     pub fn number(self) -> u8
-        ensures { result ≡ (feedRefusal self).number }
+        ensures { result ≡ (feed_refusal self).number }
     {
         match self {
             FeedError::NotDrained => 15,

@@ -20,7 +20,7 @@ use denote.Triple.Clauses.{Ended}
 use denote.Triple.Walked.{says, Stays, fits_of, has_of, stay_dropped, Goes, Goes-dropped, walk_of, ends_at}
 use Rattle.unpacker.specs.Unpacker.{Read}
 use Rattle.unpacker.specs.declared.Unpacker.{Unpacker}
-use Rattle.unpacker.proofs.Steps.{StepType, declared, stepRow, stepValue}
+use Rattle.unpacker.proofs.Steps.{StepType, declared, step_row, step_value}
 use Rattle.unpacker.proofs.Contracts as contracts
 
 -- the slice and the position, as the signature has them, and that nothing is had of them at exit
@@ -50,9 +50,9 @@ module _ (Z : StepType) {X : Type 0} (answers : Z.Answer.Value → X) (ss : List
 
     -- the ends of ss are ws, and what is had of them there is had for nothing
     pub exits : (ws : Fins (κ, tt) ss ks es) → fits_of (κ, tt) ss ks hs es ws → ent 𝓤 (emp 𝓤) (sem 𝓛 (has_of (κ, tt) ss ks hs es ws vss))
-        → (d : Z.D) → contracts.read_by Z answers d ≡ read (κ, tt) es h.buf.now h.pos → Is (stepRow Z) d (stepValue Z d ∷ []) → ent 𝓤 (⋆ 𝓛 (‵ (flft κ q) ∷ ‵ ftrue ∷ [])) (Post (stepValue Z d))
+        → (d : Z.D) → contracts.read_by Z answers d ≡ read (κ, tt) es h.buf.now h.pos → Is (step_row Z) d (step_value Z d ∷ []) → ent 𝓤 (⋆ 𝓛 (‵ (flft κ q) ∷ ‵ ftrue ∷ [])) (Post (step_value Z d))
     exits ws fit made d e is =
         qed 𝓛 (‵ (flft κ q) ∷ ‵ ftrue ∷ []) ∵
-        suffices ! _ (ends_at 𝓛 stepped stayed (contracts.step-clauses Z answers ss ks read 𝓤) bound (stepValue Z d) d (tt, (tt, ws)) (tt, (tt, fit))) $
+        suffices ! _ (ends_at 𝓛 stepped stayed (contracts.step-clauses Z answers ss ks read 𝓤) bound (step_value Z d) d (tt, (tt, ws)) (tt, (tt, fit))) $
         says ! e $ join ! $ frame ! $ use0 𝓛 (‵ (has_of (κ, tt) ss ks hs es ws vss)) made $ nothing ! $ fjoin ! $ nothing ! $ fjoin ! $ frame ! $
-        owned ! (stepRow Z) (Is (stepRow Z)) (makes (declared Z) (Z.plain, (usize-plain, tt)) 𝓛) d (stepValue Z d ∷ []) is $ done !
+        owned ! (step_row Z) (Is (step_row Z)) (makes (declared Z) (Z.plain, (usize-plain, tt)) 𝓛) d (step_value Z d ∷ []) is $ done !

@@ -27,7 +27,7 @@ use denote.Triple.Call.{calls_at}
 use denote.Triple.Clauses.{ensured, lasts}
 use Rattle.unpacker.specs.Unpacker.{fresh}
 use Rattle.unpacker.specs.declared.Unpacker.{Unpacker}
-use Rattle.unpacker.proofs.Thin.{unpackerTy, Own}
+use Rattle.unpacker.proofs.Thin.{unpacker_ty, Own}
 use Rattle.unpacker.specs.contracts.Unpacker as U
 use Rattle.unpacker.proofs.Unpacker.TheLaws as U'
 use Rattle.unpacker.specs.contracts.Unpacker.new as new
@@ -58,7 +58,7 @@ module _ {M : Type 1} {𝓤 : Ura M} (𝓛 : Logic 𝓤) (mem : Memory → SProp
     said u = ex_e 𝓤 _ (λ ws. snd∗ 𝓤 (sem 𝓛 (lasts new.ended (κ, tt) (s, tt) ws)) (fact 𝓤 (u ≡ fresh s)))
 
 -- the machine value has the struct's MIR type, whose lifetimes a local's erases
-pub fresh-typed : {M : Type 1} {𝓤 : Ura M} (𝓛 : Logic 𝓤) → (κ : Lft) (s : Bor (List ℕ)) → Is (ShrSlice (named 0) κ u8) s (val s ∷ []) → T (has_ty unpackerTy (U'.lowered (fresh s))) × WT (U'.lowered (fresh s))
+pub fresh-typed : {M : Type 1} {𝓤 : Ura M} (𝓛 : Logic 𝓤) → (κ : Lft) (s : Bor (List ℕ)) → Is (ShrSlice (named 0) κ u8) s (val s ∷ []) → T (has_ty unpacker_ty (U'.lowered (fresh s))) × WT (U'.lowered (fresh s))
 fresh-typed 𝓛 κ s slice = (tt, (((shr_slice_Lawful 𝓛 (named 0) κ u8).typed s (val s ∷ []) slice).0.1, (record { fits = lit< tt }, tt)))
 
 module _ {M : Type 1} {𝓤 : Ura M} {𝓛 : Logic 𝓤} {K : Type 0} {Γ : List (Item 𝓤)} {G : Goal 𝓤 𝓛.H} where

@@ -41,8 +41,8 @@ use denote.Triple.Clauses.{Ended, closing, ensured, lasts}
 use denote.Triple.Walked.{Stays}
 use Rattle.unpacker.specs.Unpacker.{Read, ReadIs, moved}
 use Rattle.unpacker.specs.declared.Unpacker.{Unpacker}
-use Rattle.unpacker.proofs.Steps.{StepType, declared, L, stepRow, answerRow, value, stepValue}
-use Rattle.unpacker.proofs.Thin.{B, unpackerTy, Own}
+use Rattle.unpacker.proofs.Steps.{StepType, declared, L, step_row, answer_row, value, step_value}
+use Rattle.unpacker.proofs.Thin.{B, unpacker_ty, Own}
 use Rattle.unpacker.proofs.Contracts as contracts
 use Rattle.unpacker.specs.contracts.Unpacker as T
 use Rattle.unpacker.proofs.Unpacker.TheLaws as T'
@@ -96,10 +96,10 @@ module _ (Z : StepType) {X : Type 0} (answers : Z.Answer.Value → X) (ss : List
     module _ {M : Type 1} {𝓤 : Ura M} {𝓛 : Logic 𝓤} {K : Type 0} {Γ : List (Item 𝓤)} {G : Goal 𝓤 𝓛.H} (t : K) (z : Soaks G) where
       lends : ((κs : Lfts 2) → ent 𝓤 (emp 𝓤) (sem 𝓛 (owns (types_at ss κs) (es κs) (vss κs))))
           → ((ν : ℕ) (γ : GName) → Seq K 𝓛 (raw ((MethodTriple 𝓛).pre (to-method 𝓛 ν γ)) ∷ ‵ (flent (ν ∷ κ) (Body (mem (B κ)) l 0 γ)) ∷ raw (Rest 𝓛 ν (PosShare.left q)) ∷ Γ) G)
-          → Seq K 𝓛 (‵ (fat full_share unpackerTy l 0 (T'.lowered h)) ∷ ‵ (Own κ h) ∷ ‵ (flft κ q) ∷ Γ) G
+          → Seq K 𝓛 (‵ (fat full_share unpacker_ty l 0 (T'.lowered h)) ∷ ‵ (Own κ h) ∷ ‵ (flft κ q) ∷ Γ) G
       unfolding part_of
       lends made k =
-          use1 𝓛 (‵ (cell_at full_share (B κ).mir (T'.lowered h ∷ []) l 0)) (𝓛.laws.at_raw full_share unpackerTy l 0 (T'.lowered h)) $
+          use1 𝓛 (‵ (cell_at full_share (B κ).mir (T'.lowered h ∷ []) l 0)) (𝓛.laws.at_raw full_share unpacker_ty l 0 (T'.lowered h)) $
           fjoin t $ fpack t (List Val) (λ us. fsep (cell_at full_share (B κ).mir us l 0) ((B κ).own h us)) (T'.lowered h ∷ []) $
           lft_new t z (λ ν. move t (2 ∷ []) $ use1 𝓛 (‵ (flft κ (PosShare.left q)) ⊛ ‵ (flft κ (PosShare.right q))) (𝓛.lfts.lft_split κ q) $ split t $ move t (2 ∷ 0 ∷ []) $
           use2 𝓛 (‵ (flft (ν ∷ κ) (PosShare.left q)) ⊛ raw (Rest 𝓛 ν (PosShare.left q))) (within_token 𝓛 ν κ (PosShare.left q)) $ split t $
@@ -110,12 +110,12 @@ module _ (Z : StepType) {X : Type 0} (answers : Z.Answer.Value → X) (ss : List
           move t (2 ∷ 4 ∷ 0 ∷ []) $ use3 𝓛 (raw ((MethodTriple 𝓛).pre (to-method 𝓛 ν γ))) (goes 𝓛 ν γ) $ k ν γ))
 
       comes : (ν : ℕ) (γ : GName) (u : Val)
-          → ((d : Z.D) → contracts.read_by Z answers d ≡ read (within ν) (es (within ν)) h.buf.now h.pos → Is (stepRow Z) d (stepValue Z d ∷ []) → u ≡ value Z d
-          → Seq K 𝓛 (‵ (fat full_share unpackerTy l 0 (T'.lowered (moved h (Z.pos d)))) ∷ ‵ (Own κ (moved h (Z.pos d))) ∷ ‵ (flft κ q) ∷ Γ) G)
+          → ((d : Z.D) → contracts.read_by Z answers d ≡ read (within ν) (es (within ν)) h.buf.now h.pos → Is (step_row Z) d (step_value Z d ∷ []) → u ≡ value Z d
+          → Seq K 𝓛 (‵ (fat full_share unpacker_ty l 0 (T'.lowered (moved h (Z.pos d)))) ∷ ‵ (Own κ (moved h (Z.pos d))) ∷ ‵ (flft κ q) ∷ Γ) G)
           → Seq K 𝓛 (raw ((MethodTriple 𝓛).post (to-method 𝓛 ν γ) u) ∷ ‵ (flent (ν ∷ κ) (Body (mem (B κ)) l 0 γ)) ∷ raw (Rest 𝓛 ν (PosShare.left q)) ∷ Γ) G
       unfolding part_of
       comes ν γ u k =
-          use1 𝓛 (later (some (λ (a : Z.Answer.Value). ((‵ (flft (ν ∷ κ) (PosShare.left q)) ⊛ ‵ (flft κ (PosShare.right q)) ⊛ ‵ ftrue) ⊛ ‵ ((answerRow Z).own a (u ∷ [])))
+          use1 𝓛 (later (some (λ (a : Z.Answer.Value). ((‵ (flft (ν ∷ κ) (PosShare.left q)) ⊛ ‵ (flft κ (PosShare.right q)) ⊛ ‵ ftrue) ⊛ ‵ ((answer_row Z).own a (u ∷ [])))
           ⊛ raw (ensured 𝓛 method (contracts.method-clauses Z answers ss ks hs read 𝓤) (within ν) (self γ, es (within ν)) tt a)))) (id⊢ 𝓤 _) $
           await t z $ pick t (λ a. split t $ move t (1 ∷ []) $
           use1 𝓛 (some (λ (ws : Unpacker × Fins (within ν) ss ks (es (within ν))). ‵ (lasts method (within ν) (self γ, es (within ν)) ws) ⊛ raw (fact 𝓤 (ReadIs (read (within ν) (es (within ν))) h (answers a) ws.0)))) (id⊢ 𝓤 _) $
@@ -125,19 +125,19 @@ module _ (Z : StepType) {X : Type 0} (answers : Z.Answer.Value → X) (ss : List
           move t (1 ∷ 2 ∷ []) $ use2 𝓛 (‵ (flft κ q)) (𝓛.lfts.lft_join κ q) $
           -- ['a's token; the call's is over; nothing; the answer; the last Unpacker; the rest's; the lender's part; …]
           move t (1 ∷ 6 ∷ 4 ∷ []) $ use3 𝓛 (later (‵ ((mem (B κ)).own_at ws.0 l 0))) (ref_back 𝓛 (B κ) (ν ∷ κ) γ ws.0 l 0) $ await t z $
-          move t (3 ∷ []) $ facts t (answerRow Z) (Is (answerRow Z)) (shows 𝓛 (answerRow Z)) a (u ∷ []) (λ is.
+          move t (3 ∷ []) $ facts t (answer_row Z) (Is (answer_row Z)) (shows 𝓛 (answer_row Z)) a (u ∷ []) (λ is.
           fpick t (λ vs. fsplit t $ spelt t (B κ) (Is (B κ)) (shows 𝓛 (B κ)) (LL.vals (U κ) (UL κ)) (LL.tells (U κ) (UL κ)) full_share ws.0 vs l 0 $
-          use1 𝓛 (‵ (fat full_share unpackerTy l 0 (T'.lowered ws.0))) (𝓛.laws.raw_at full_share unpackerTy l 0 (T'.lowered ws.0)) $
+          use1 𝓛 (‵ (fat full_share unpacker_ty l 0 (T'.lowered ws.0))) (𝓛.laws.raw_at full_share unpacker_ty l 0 (T'.lowered ws.0)) $
           move t (1 ∷ []) $ peeks t (B κ) (Is (B κ)) (shows 𝓛 (B κ)) ws.0 (T'.lowered ws.0 ∷ []) (λ was. move t (3 ∷ 4 ∷ []) $ drop t $ drop t $ move t (1 ∷ 0 ∷ []) $
           let place = (read (within ν) (es (within ν)) h.buf.now h.pos).place in
           let d : Z.D = Z.make a place in
           let at : place ≡ Z.pos d = Z.made-pos a place in
           let told = Z.laws.tells (Z.Answer.into a) (u ∷ []) is in
-          let holds : Z.Answer.Value → Type 0 = λ x. Is (answerRow Z) x (Z.laws.val (Z.Answer.into x) ∷ []) in
+          let holds : Z.Answer.Value → Type 0 = λ x. Is (answer_row Z) x (Z.laws.val (Z.Answer.into x) ∷ []) in
           let fits = subst (λ (n : ℕ). n < 2 ^ 64) (ap (λ (w : Unpacker). w.pos) e.leaves ∙ at) was.1.1.1.0.1 in
-          rewrite t 0 (λ (w : Unpacker). ‵ (fat full_share unpackerTy l 0 (T'.lowered w))) (e.leaves ∙ ap (moved h) at) refl $ rewrite t 1 (λ (w : Unpacker). ‵ (Own κ w)) (e.leaves ∙ ap (moved h) at) refl $
+          rewrite t 0 (λ (w : Unpacker). ‵ (fat full_share unpacker_ty l 0 (T'.lowered w))) (e.leaves ∙ ap (moved h) at) refl $ rewrite t 1 (λ (w : Unpacker). ‵ (Own κ w)) (e.leaves ∙ ap (moved h) at) refl $
           k d (λ i. record { answer = (ap answers (sym (Z.made-answer a place)) ∙ e.answers) i; place = sym at i })
-          (LL.owes (declared Z) (L Z) d (subst holds (Z.made-answer a place) (subst (Is (answerRow Z) a) told is), ((refl, fits), tt)))
+          (LL.owes (declared Z) (L Z) d (subst holds (Z.made-answer a place) (subst (Is (answer_row Z) a) told is), ((refl, fits), tt)))
           (ap only told ∙ ap (λ (x : Z.Answer.Value). Z.laws.val (Z.Answer.into x)) (Z.made-answer a place))))))))
 
     -- the call: the Unpacker is lent, the method reads, and the Unpacker comes back, with the answer about to be stored
@@ -146,8 +146,8 @@ module _ (Z : StepType) {X : Type 0} (answers : Z.Answer.Value → X) (ss : List
 
       pub reads : K → FmC 𝓤 H 𝓛.laws C → Triple 𝓤 (C f) (MethodTriple 𝓛) → ((κs : Lfts 2) → ent 𝓤 (emp 𝓤) (sem 𝓛 (owns (types_at ss κs) (es κs) (vss κs))))
           → ((ν : ℕ) (γ : GName) → Opds K 𝓛 (raw ((MethodTriple 𝓛).pre (to-method 𝓛 ν γ)) ∷ ‵ (flent (ν ∷ κ) (Body (mem (B κ)) l 0 γ)) ∷ raw (Rest 𝓛 ν (PosShare.left q)) ∷ Γ) E xs ((MethodTriple 𝓛).args (to-method 𝓛 ν γ)))
-          → ((ν : ℕ) (d : Z.D) → contracts.read_by Z answers d ≡ read (within ν) (es (within ν)) h.buf.now h.pos → Is (stepRow Z) d (stepValue Z d ∷ [])
-          → Seq K 𝓛 (‵ (fat full_share unpackerTy l 0 (T'.lowered (moved h (Z.pos d)))) ∷ ‵ (Own κ (moved h (Z.pos d))) ∷ ‵ (flft κ q) ∷ Γ) (lands C Λ E p (value Z d) rest r))
-          → Seq K 𝓛 (‵ (fat full_share unpackerTy l 0 (T'.lowered h)) ∷ ‵ (Own κ h) ∷ ‵ (flft κ q) ∷ Γ) (runs C Λ E (seq (call f xs p) rest) r)
+          → ((ν : ℕ) (d : Z.D) → contracts.read_by Z answers d ≡ read (within ν) (es (within ν)) h.buf.now h.pos → Is (step_row Z) d (step_value Z d ∷ [])
+          → Seq K 𝓛 (‵ (fat full_share unpacker_ty l 0 (T'.lowered (moved h (Z.pos d)))) ∷ ‵ (Own κ (moved h (Z.pos d))) ∷ ‵ (flft κ q) ∷ Γ) (lands C Λ E p (value Z d) rest r))
+          → Seq K 𝓛 (‵ (fat full_share unpacker_ty l 0 (T'.lowered h)) ∷ ‵ (Own κ h) ∷ ‵ (flft κ q) ∷ Γ) (runs C Λ E (seq (call f xs p) rest) r)
       reads t fm known made os k =
           lends t tt made (λ ν γ. calls_at t fm (MethodTriple 𝓛) known (to-method 𝓛 ν γ) (os ν γ) (λ u. comes t tt ν γ u (λ d e is told. regoal t (λ (w : Val). lands C Λ E p w rest r) told refl $ k ν d e is)))

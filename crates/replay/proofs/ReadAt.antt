@@ -24,8 +24,8 @@ use denote.Triple.Clauses.{Ended, Clauses, closing}
 use denote.Triple.Walked.{Stays, walked, walk_Meets}
 use Rattle.unpacker.specs.Unpacker.{Read}
 use Rattle.unpacker.specs.declared.Unpacker.{Unpacker}
-use Rattle.unpacker.proofs.Steps.{StepType, takenLocals, takenOpds, stepTy, pos-fits, step_typed, answer_typed}
-use Rattle.unpacker.proofs.Thin.{unpacker, unpackerTy, Own}
+use Rattle.unpacker.proofs.Steps.{StepType, taken_locals, taken_opds, step_ty, pos-fits, step_typed, answer_typed}
+use Rattle.unpacker.proofs.Thin.{unpacker, unpacker_ty, Own}
 use Rattle.unpacker.proofs.Contracts as contracts
 use Rattle.replay.proofs.Lent.{whole_of, reads}
 use Rattle.replay.proofs.Lent as lent
@@ -38,11 +38,11 @@ shape τs Z method = record {
   outlives = [];
   params = length τs + 2;
   locals =
-      local (stepTy Z) value_local ∷
+      local (step_ty Z) value_local ∷
       local (ShrSlice (named 0) [] u8).written.ty value_local ∷
       local (ty_int w64) value_local ∷
-      takenLocals τs (
-      local unpackerTy memory_slot ∷
+      taken_locals τs (
+      local unpacker_ty memory_slot ∷
       local Z.mir value_local ∷
       local (ty_ref erased mut (ty_named (unpacker, erased ∷ []))) value_local ∷
       local (ty_int w64) value_local ∷ []);
@@ -53,7 +53,7 @@ shape τs Z method = record {
       let pos = length τs + 6 in
       seq (assign (place reader []) (aggregate (copy (place 1 []) ∷ copy (place 2 []) ∷ [])))
       (seq (assign (place lent []) (addr_of (place reader [])))
-      (seq (call method (copy (place lent []) ∷ takenOpds τs 3) (place answer []))
+      (seq (call method (copy (place lent []) ∷ taken_opds τs 3) (place answer []))
       (seq (assign (place pos []) (rv_opd (copy (place reader (field 1 ∷ [])))))
       (seq (assign (place 0 []) (aggregate (copy (place answer []) ∷ copy (place pos []) ∷ []))) return))));
 }

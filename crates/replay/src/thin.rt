@@ -1,8 +1,8 @@
 // The thin `Unpacker` of the crate `unpacker`, called as the Rust calls it: each function makes one over a
 // lent slice, reads once by a method, and hands back the answer and where the position then stands.
 ghost use Rattle.std.specs.Prelude.{◌≡◌};
-ghost use Rattle.unpacker.specs.Unpacker.{unsignedRead, scaledRead, nameRead, stepU8, stepU32, stepF32, stepName39};
-ghost use Rattle.replay.specs.InARow.{inARow, rowFour};
+ghost use Rattle.unpacker.specs.Unpacker.{unsigned_read, scaled_read, name_read, step_u8, step_u32, step_f32, step_name39};
+ghost use Rattle.replay.specs.InARow.{in_a_row, row_four};
 
 use names::Name39;
 use packer::{UnpackedF32, UnpackedU8, UnpackedU32};
@@ -16,7 +16,7 @@ pub(crate) fn start(buf: &[u8]) -> usize
 }
 
 pub(crate) fn u8_at(buf: &[u8], pos: usize) -> StepU8
-    ensures { stepU8 result ≡ unsignedRead 1 buf.now pos }
+    ensures { step_u8 result ≡ unsigned_read 1 buf.now pos }
 {
     let mut u = Unpacker { buf, pos };
     let answer = u.unpack_u8();
@@ -24,7 +24,7 @@ pub(crate) fn u8_at(buf: &[u8], pos: usize) -> StepU8
 }
 
 pub(crate) fn u32_at(buf: &[u8], pos: usize) -> StepU32
-    ensures { stepU32 result ≡ unsignedRead 4 buf.now pos }
+    ensures { step_u32 result ≡ unsigned_read 4 buf.now pos }
 {
     let mut u = Unpacker { buf, pos };
     let answer = u.unpack_u32();
@@ -32,7 +32,7 @@ pub(crate) fn u32_at(buf: &[u8], pos: usize) -> StepU32
 }
 
 pub(crate) fn f32_at(buf: &[u8], pos: usize, scale: f32) -> StepF32
-    ensures { stepF32 result ≡ scaledRead 4 scale buf.now pos }
+    ensures { step_f32 result ≡ scaled_read 4 scale buf.now pos }
 {
     let mut u = Unpacker { buf, pos };
     let answer = u.unpack_f32(scale);
@@ -40,7 +40,7 @@ pub(crate) fn f32_at(buf: &[u8], pos: usize, scale: f32) -> StepF32
 }
 
 pub(crate) fn name39_at(buf: &[u8], pos: usize) -> StepName39
-    ensures { stepName39 result ≡ nameRead 39 buf.now pos }
+    ensures { step_name39 result ≡ name_read 39 buf.now pos }
 {
     let mut u = Unpacker { buf, pos };
     let answer = u.unpack_c_string_39();
@@ -58,7 +58,7 @@ pub(crate) struct Row {
 }
 
 pub(crate) fn in_a_row(buf: &[u8], scale: f32) -> Row
-    ensures { rowFour result ≡ inARow scale buf.now }
+    ensures { row_four result ≡ in_a_row scale buf.now }
 {
     let mut u = Unpacker::new(buf);
     let byte = u.unpack_u8();

@@ -8,32 +8,32 @@ use native.Mathlib.Nat.{le_refl}
 use lib.Dec.{eqb}
 use lib.ListN.{get_or, drop}
 use borrow.Author.Tests.{eqb-true, eqb-false, ne_eqb}
-use Rattle.refusals.specs.Refusals.{Answer, ok, refused, consumed, unknownPacket}
+use Rattle.refusals.specs.Refusals.{Answer, ok, refused, consumed, unknown_packet}
 use Rattle.refusals.specs.declared.Consumed.TheVariants.{To}
 use Rattle.refusals.proofs.Different.{none}
-use Rattle.format.specs.Format.{allValues}
-use Rattle.packer.specs.Numbers.{numbersAt}
+use Rattle.format.specs.Format.{all_values}
+use Rattle.packer.specs.Numbers.{numbers_at}
 use Rattle.tables.specs.Tables.{widths}
 use Rattle.tables.specs.Sorts.{table_of}
 use Rattle.tables.specs.declared.Sort.{Sort}
 use Rattle.tables.specs.declared.Sort.TheVariants as Sort
-use Rattle.telemetry.specs.Telemetry.{valuesOf, setupValuesOf, statsOf, noValues, noSetupValues, noStats}
-use Rattle.telemetry.specs.Records.{recordOf, noRecord, RecordHolds}
+use Rattle.telemetry.specs.Telemetry.{values_of, setup_values_of, stats_of, no_values, no_setup_values, no_stats}
+use Rattle.telemetry.specs.Records.{record_of, empty_record, RecordHolds}
 use Rattle.telemetry.proofs.Records.{telemetry-records}
 use Rattle.firmware.specs.declared.FwVersion.{FwVersion}
 use Rattle.firmware.specs.declared.FwInfo.{FwInfo}
-use Rattle.frame.specs.Frame.{short, payloadIn}
-use Rattle.frame.specs.Opening.{payloadPart}
+use Rattle.frame.specs.Frame.{short, payload_in}
+use Rattle.frame.specs.Opening.{payload_part}
 use Rattle.frame.proofs.Places.{payload-is}
-use Rattle.layout.specs.Layout.{Layout, extent, rawOf, RawsOf, raws}
-use Rattle.layout.specs.Replies.{getValues, selective, setupSelective, getStats, layoutIn, fieldsEnd}
+use Rattle.layout.specs.Layout.{Layout, extent, raw_of, RawsOf, raws}
+use Rattle.layout.specs.Replies.{get_values, selective, setup_selective, get_stats, layout_in, fields_end}
 use Rattle.layout.proofs.Raws.{raws-drop, raws-own}
-use Rattle.judge.specs.Judge.{judgeOf}
+use Rattle.judge.specs.Judge.{judge_of}
 use Rattle.judge.specs.Good.{GoodFrame}
 use Rattle.judge.proofs.Good.{good-parts, id-there, good-frames}
-use Rattle.reply.specs.Reply.{kindNumber, replyWith, blankOf, emptyReply, withValues, withSetupValues, withStats, getValuesOf, getValuesSelectiveOf, getValuesSetupSelectiveOf, getStatsOf, fwVersionReplyOf, fwInfoReplyOf, replyOf}
-use Rattle.reply.specs.Decode.{Decode, replyIn, replyBy, decodeOf, decoded}
-use Rattle.reply.specs.Records.{recordIn, received, masks, fields_at, RecordsOf}
+use Rattle.reply.specs.Reply.{kind_number, reply_with, blank_of, empty_reply, with_values, with_setup_values, with_stats, get_values_of, get_values_selective_of, get_values_setup_selective_of, get_stats_of, fw_version_reply_of, fw_info_reply_of, reply_of}
+use Rattle.reply.specs.Decode.{Decode, reply_in, reply_by, decode_of, decoded}
+use Rattle.reply.specs.Records.{record_in, received, masks, fields_at, RecordsOf}
 use Rattle.reply.specs.declared.Kind.{Kind}
 use Rattle.reply.specs.declared.Kind.TheVariants as Kind
 use Rattle.reply.specs.declared.CommandReply.{CommandReply}
@@ -42,42 +42,42 @@ use Rattle.reply.specs.declared.Decoded.{Decoded}
 -- the claim of all three records, from the claim of each
 module _ (s : List ℕ) (start : ℕ) (reply : CommandReply) {values setup stats : ℕ} where
   each
-      : RecordHolds Sort.Values values s start (recordIn Sort.Values reply) → RecordHolds Sort.SetupValues setup s start (recordIn Sort.SetupValues reply)
-      → RecordHolds Sort.Stats stats s start (recordIn Sort.Stats reply) → (sort : Sort) → RecordHolds sort (masks values setup stats sort) s start (recordIn sort reply)
+      : RecordHolds Sort.Values values s start (record_in Sort.Values reply) → RecordHolds Sort.SetupValues setup s start (record_in Sort.SetupValues reply)
+      → RecordHolds Sort.Stats stats s start (record_in Sort.Stats reply) → (sort : Sort) → RecordHolds sort (masks values setup stats sort) s start (record_in sort reply)
   each first second third Sort.Values = first
   each first second third Sort.SetupValues = second
   each first second third Sort.Stats = third
 
-abbrev filled : (sort : Sort) (bits : ℕ) (s : List ℕ) (start : ℕ) → RecordHolds sort bits s start (recordOf sort bits (numbersAt (widths bits (table_of sort)) s start))
+abbrev filled : (sort : Sort) (bits : ℕ) (s : List ℕ) (start : ℕ) → RecordHolds sort bits s start (record_of sort bits (numbers_at (widths bits (table_of sort)) s start))
 filled = telemetry-records.filled
 
-abbrev empty : (sort : Sort) (s : List ℕ) (start : ℕ) → RecordHolds sort 0 s start (noRecord sort)
+abbrev empty : (sort : Sort) (s : List ℕ) (start : ℕ) → RecordHolds sort 0 s start (empty_record sort)
 empty = telemetry-records.empty
 
 -- a reply with no telemetry
 nothing
     : (s : List ℕ) (kind : Kind) (version : FwVersion) (info : FwInfo) (sort : Sort)
-    → RecordHolds sort (masks 0 0 0 sort) s (fields_at kind) (recordIn sort (replyWith kind noValues noSetupValues noStats version info))
+    → RecordHolds sort (masks 0 0 0 sort) s (fields_at kind) (record_in sort (reply_with kind no_values no_setup_values no_stats version info))
 nothing s kind version info =
-    each s (fields_at kind) (replyWith kind noValues noSetupValues noStats version info) (empty Sort.Values s _) (empty Sort.SetupValues s _) (empty Sort.Stats s _)
+    each s (fields_at kind) (reply_with kind no_values no_setup_values no_stats version info) (empty Sort.Values s _) (empty Sort.SetupValues s _) (empty Sort.Stats s _)
 
 -- the empty reply, whatever was refused
-pub empty-records : (s : List ℕ) → RecordsOf s emptyReply
-unfolding emptyReply blankOf
+pub empty-records : (s : List ℕ) → RecordsOf s empty_reply
+unfolding empty_reply blank_of
 empty-records s = nothing s Kind.FwVersion _ _
 
 -- a reply of the kind whose number is the id, and what its records hold
 abbrev Told : List ℕ → CommandReply → Type 0
-Told s reply = (kindNumber reply.kind ≡ get_or s 2 0) × RecordsOf s reply
+Told s reply = (kind_number reply.kind ≡ get_or s 2 0) × RecordsOf s reply
 
 -- ---- a good frame's payload
 module _ (s : List ℕ) (good : GoodFrame s) where
   abbrev payload : List ℕ
-  payload = payloadIn short s
+  payload = payload_in short s
 
   -- its raw values are those of its layout in the slice
-  raws-there : (l : Layout) → fieldsEnd (get_or s 2 0) (drop 2 s) 1 ≡ extent l (drop 2 s) 1 → raws l payload 1 ≡ raws l s 3
-  unfolding payloadPart
+  raws-there : (l : Layout) → fields_end (get_or s 2 0) (drop 2 s) 1 ≡ extent l (drop 2 s) 1 → raws l payload 1 ≡ raws l s 3
+  unfolding payload_part
   raws-there l chosen =
       let parts = good-parts s good in
       let there = parts.ended.there in
@@ -85,40 +85,40 @@ module _ (s : List ℕ) (good : GoodFrame s) where
       ∙ raws-own (drop 2 s) (get_or s 1 0) l 1 (get_or s 1 0) (le_refl _) (sym chosen ∙ parts.fields)
       ∙ raws-drop s 2 (omega arith) l 1
 
-  get-values-told : get_or s 2 0 ≡ 4 → Told s (getValuesOf payload)
-  unfolding getValuesOf fieldsEnd layoutIn raws rawOf
+  get-values-told : get_or s 2 0 ≡ 4 → Told s (get_values_of payload)
+  unfolding get_values_of fields_end layout_in raws raw_of
   get-values-told id =
-      subst (λ (r : RawsOf getValues). Told s (withValues Kind.GetValues (valuesOf allValues r.0))) (sym (raws-there getValues (rw id)))
-      (sym id, each s 3 _ (filled Sort.Values allValues s 3) (empty Sort.SetupValues s 3) (empty Sort.Stats s 3))
+      subst (λ (r : RawsOf get_values). Told s (with_values Kind.GetValues (values_of all_values r.0))) (sym (raws-there get_values (rw id)))
+      (sym id, each s 3 _ (filled Sort.Values all_values s 3) (empty Sort.SetupValues s 3) (empty Sort.Stats s 3))
 
-  selective-told : get_or s 2 0 ≡ 50 → Told s (getValuesSelectiveOf payload)
-  unfolding getValuesSelectiveOf fieldsEnd layoutIn raws rawOf
+  selective-told : get_or s 2 0 ≡ 50 → Told s (get_values_selective_of payload)
+  unfolding get_values_selective_of fields_end layout_in raws raw_of
   selective-told id =
-      subst (λ (r : RawsOf selective). Told s (withValues Kind.GetValuesSelective (valuesOf r.0.0 r.0.1))) (sym (raws-there selective (rw id)))
+      subst (λ (r : RawsOf selective). Told s (with_values Kind.GetValuesSelective (values_of r.0.0 r.0.1))) (sym (raws-there selective (rw id)))
       (sym id, each s 7 _ (filled Sort.Values (received s) s 7) (empty Sort.SetupValues s 7) (empty Sort.Stats s 7))
 
-  setup-selective-told : get_or s 2 0 ≡ 51 → Told s (getValuesSetupSelectiveOf payload)
-  unfolding getValuesSetupSelectiveOf fieldsEnd layoutIn raws rawOf
+  setup-selective-told : get_or s 2 0 ≡ 51 → Told s (get_values_setup_selective_of payload)
+  unfolding get_values_setup_selective_of fields_end layout_in raws raw_of
   setup-selective-told id =
-      subst (λ (r : RawsOf setupSelective). Told s (withSetupValues (setupValuesOf r.0.0 r.0.1))) (sym (raws-there setupSelective (rw id)))
+      subst (λ (r : RawsOf setup_selective). Told s (with_setup_values (setup_values_of r.0.0 r.0.1))) (sym (raws-there setup_selective (rw id)))
       (sym id, each s 7 _ (empty Sort.Values s 7) (filled Sort.SetupValues (received s) s 7) (empty Sort.Stats s 7))
 
-  get-stats-told : get_or s 2 0 ≡ 128 → Told s (getStatsOf payload)
-  unfolding getStatsOf fieldsEnd layoutIn raws rawOf
+  get-stats-told : get_or s 2 0 ≡ 128 → Told s (get_stats_of payload)
+  unfolding get_stats_of fields_end layout_in raws raw_of
   get-stats-told id =
-      subst (λ (r : RawsOf getStats). Told s (withStats (statsOf r.0.0 r.0.1))) (sym (raws-there getStats (rw id)))
+      subst (λ (r : RawsOf get_stats). Told s (with_stats (stats_of r.0.0 r.0.1))) (sym (raws-there get_stats (rw id)))
       (sym id, each s 7 _ (empty Sort.Values s 7) (empty Sort.SetupValues s 7) (filled Sort.Stats (received s) s 7))
 
-  fw-version-told : get_or s 2 0 ≡ 0 → Told s (fwVersionReplyOf payload)
-  unfolding fwVersionReplyOf
+  fw-version-told : get_or s 2 0 ≡ 0 → Told s (fw_version_reply_of payload)
+  unfolding fw_version_reply_of
   fw-version-told id = (sym id, nothing s Kind.FwVersion _ _)
 
-  reset-stats-told : get_or s 2 0 ≡ 129 → Told s (blankOf Kind.ResetStats)
-  unfolding blankOf
+  reset-stats-told : get_or s 2 0 ≡ 129 → Told s (blank_of Kind.ResetStats)
+  unfolding blank_of
   reset-stats-told id = (sym id, nothing s Kind.ResetStats _ _)
 
-  fw-info-told : get_or s 2 0 ≡ 157 → Told s (fwInfoReplyOf payload)
-  unfolding fwInfoReplyOf
+  fw-info-told : get_or s 2 0 ≡ 157 → Told s (fw_info_reply_of payload)
+  unfolding fw_info_reply_of
   fw-info-told id = (sym id, nothing s Kind.FwInfo _ _)
 
   -- one test of the id
@@ -134,8 +134,8 @@ module _ (s : List ℕ) (good : GoodFrame s) where
       go true e = is (sym there ∙ eqb-true _ id e)
       go false e = else (λ is-id. eqb-false _ id e (there ∙ is-id))
 
-  reply-told : Told s (replyOf payload)
-  unfolding replyOf fieldsEnd layoutIn
+  reply-told : Told s (reply_of payload)
+  unfolding reply_of fields_end layout_in
   reply-told =
       by-id 0 _ _ fw-version-told (λ not-0.
       by-id 4 _ _ get-values-told (λ not-4.
@@ -144,26 +144,26 @@ module _ (s : List ℕ) (good : GoodFrame s) where
       by-id 128 _ _ get-stats-told (λ not-128.
       by-id 129 _ _ reset-stats-told (λ not-129.
       by-id 157 _ _ fw-info-told (λ not-157.
-      let no : refused (unknownPacket (get_or s 2 0)) ≡ ok _ =
+      let no : refused (unknown_packet (get_or s 2 0)) ≡ ok _ =
       rw (ne_eqb _ 0 not-0, ne_eqb _ 4 not-4, ne_eqb _ 50 not-50, ne_eqb _ 51 not-51, ne_eqb _ 128 not-128, ne_eqb _ 129 not-129, ne_eqb _ 157 not-157) at good.fields in
       none (cc))))))))
 
 -- ---- whatever `decode` returns of a slice
 
 -- where that is a good frame
-pub decoded-told : (s : List ℕ) (d : Decoded) → decoded d ≡ decodeOf s → (count : ℕ) → d.answer ≡ To count → Told s d.reply
-unfolding decodeOf replyBy replyIn
+pub decoded-told : (s : List ℕ) (d : Decoded) → decoded d ≡ decode_of s → (count : ℕ) → d.answer ≡ To count → Told s d.reply
+unfolding decode_of reply_by reply_in
 decoded-told s d is count answer =
-    let e : judgeOf s ≡ ok count = sym (ap (λ (r : Decode). r.answer) is) ∙ ap consumed answer in
-    let reply : d.reply ≡ replyOf (payloadIn short s) = ap (λ (r : Decode). r.reply) is ∙ ap (λ (a : Answer ℕ). replyBy a s) e in
+    let e : judge_of s ≡ ok count = sym (ap (λ (r : Decode). r.answer) is) ∙ ap consumed answer in
+    let reply : d.reply ≡ reply_of (payload_in short s) = ap (λ (r : Decode). r.reply) is ∙ ap (λ (a : Answer ℕ). reply_by a s) e in
     rw reply (reply-told s ((good-frames.judged s count).0 e).0)
 
-by-records : (s : List ℕ) (a : Answer ℕ) → judgeOf s ≡ a → RecordsOf s (replyBy a s)
-unfolding replyBy replyIn
+by-records : (s : List ℕ) (a : Answer ℕ) → judge_of s ≡ a → RecordsOf s (reply_by a s)
+unfolding reply_by reply_in
 by-records s (ok count) e = (reply-told s ((good-frames.judged s count).0 e).0).1
 by-records s (refused why) e = empty-records s
 
 -- and in every case
-pub decoded-records : (s : List ℕ) → RecordsOf s (decodeOf s).reply
-unfolding decodeOf
-decoded-records s = by-records s (judgeOf s) refl
+pub decoded-records : (s : List ℕ) → RecordsOf s (decode_of s).reply
+unfolding decode_of
+decoded-records s = by-records s (judge_of s) refl

@@ -6,7 +6,7 @@ use lib.Dec.{eqb}
 use Rattle.refusals.specs.OneAnswer.{ToldApart}
 use Rattle.refusals.proofs.Unique.{told-apart}
 use Rattle.refusals.proofs.Unique.{consumed-unique}
-use Rattle.reply.specs.Reply.{kindNumber}
+use Rattle.reply.specs.Reply.{kind_number}
 use Rattle.reply.specs.Decode.{Decode, decoded}
 use Rattle.reply.specs.OneAnswer.{OneAnswer}
 use Rattle.reply.specs.declared.Kind.{Kind}
@@ -16,8 +16,8 @@ decode-unique : ToldApart decoded
 decode-unique a b e =
     λ i. record { answer = consumed-unique a.answer b.answer (ap (λ (d : Decode). d.answer) e) i; reply = ap (λ (d : Decode). d.reply) e i }
 
-kindBack : ℕ → Kind
-kindBack n =
+kind_back : ℕ → Kind
+kind_back n =
     cond (eqb n 0) Kind.FwVersion
     (cond (eqb n 4) Kind.GetValues
     (cond (eqb n 50) Kind.GetValuesSelective
@@ -25,8 +25,8 @@ kindBack n =
     (cond (eqb n 128) Kind.GetStats
     (cond (eqb n 129) Kind.ResetStats Kind.FwInfo)))))
 
-kind-back : (k : Kind) → kindBack (kindNumber k) ≡ k
-unfolding kindBack
+kind-back : (k : Kind) → kind_back (kind_number k) ≡ k
+unfolding kind_back
 kind-back Kind.FwVersion = refl
 kind-back Kind.GetValues = refl
 kind-back Kind.GetValuesSelective = refl
@@ -36,4 +36,4 @@ kind-back Kind.ResetStats = refl
 kind-back Kind.FwInfo = refl
 
 pub one_answer : OneAnswer
-one_answer = record { decode = decode-unique; kinds = told-apart kindNumber kindBack kind-back }
+one_answer = record { decode = decode-unique; kinds = told-apart kind_number kind_back kind-back }

@@ -2,11 +2,11 @@
 // can't hold the arrays of the Rust's variants, so a reply is a struct: the kind, and one record of each sort.
 // Every function takes every slice.
 ghost use Rattle.std.specs.Prelude.{◌≡◌};
-ghost use Rattle.packer.specs.Numbers.{numbersAt};
-ghost use Rattle.tables.specs.Tables.{widths, valuesTable};
-ghost use Rattle.telemetry.specs.Telemetry.{valuesOf};
-ghost use Rattle.reply.specs.Reply.{kindNumber, blankOf, emptyReply, withValues, getValuesOf, getValuesSelectiveOf, getValuesSetupSelectiveOf, getStatsOf, fwVersionReplyOf, fwInfoReplyOf, replyOf};
-ghost use Rattle.reply.specs.Decode.{replyIn, decodeOf, decoded};
+ghost use Rattle.packer.specs.Numbers.{numbers_at};
+ghost use Rattle.tables.specs.Tables.{widths, values_table};
+ghost use Rattle.telemetry.specs.Telemetry.{values_of};
+ghost use Rattle.reply.specs.Reply.{kind_number, blank_of, empty_reply, with_values, get_values_of, get_values_selective_of, get_values_setup_selective_of, get_stats_of, fw_version_reply_of, fw_info_reply_of, reply_of};
+ghost use Rattle.reply.specs.Decode.{reply_in, decode_of, decoded};
 
 use firmware::{FwInfo, FwVersion};
 use refusals::Consumed;
@@ -46,7 +46,7 @@ pub struct Decoded {
 impl Kind {
     // A reply's number is its id.
     pub fn number(self) -> u8
-        ensures { result ≡ kindNumber self }
+        ensures { result ≡ kind_number self }
     {
         match self {
             Kind::FwVersion => format::FW_VERSION,
@@ -62,7 +62,7 @@ impl Kind {
 
 // A reply of a kind, with nothing in its records.
 fn blank(kind: Kind) -> CommandReply
-    ensures { result ≡ blankOf kind }
+    ensures { result ≡ blank_of kind }
 {
     CommandReply {
         kind,
@@ -76,13 +76,13 @@ fn blank(kind: Kind) -> CommandReply
 
 // The reply where there is none.
 pub fn empty() -> CommandReply
-    ensures { result ≡ emptyReply }
+    ensures { result ≡ empty_reply }
 {
     blank(Kind::FwVersion)
 }
 
 fn with_values(kind: Kind, mask: u32, payload: &[u8], at: usize) -> CommandReply
-    ensures { result ≡ withValues kind (valuesOf mask (numbersAt (widths mask valuesTable) payload.now at)) }
+    ensures { result ≡ with_values kind (values_of mask (numbers_at (widths mask values_table) payload.now at)) }
 {
     let raw = tables::unpack_fields(payload, at, Sort::Values, mask);
     let mut reply = blank(kind);
@@ -91,14 +91,14 @@ fn with_values(kind: Kind, mask: u32, payload: &[u8], at: usize) -> CommandReply
 }
 
 fn unpack_get_values(payload: &[u8]) -> CommandReply
-    ensures { result ≡ getValuesOf payload.now }
+    ensures { result ≡ get_values_of payload.now }
 {
     with_values(Kind::GetValues, format::ALL_VALUES, payload, 1)
 }
 
 // The fields of a masked reply follow its mask of four bytes.
 fn unpack_get_values_selective(payload: &[u8]) -> CommandReply
-    ensures { result ≡ getValuesSelectiveOf payload.now }
+    ensures { result ≡ get_values_selective_of payload.now }
 {
     with_values(
         Kind::GetValuesSelective,
@@ -109,7 +109,7 @@ fn unpack_get_values_selective(payload: &[u8]) -> CommandReply
 }
 
 fn unpack_get_values_setup_selective(payload: &[u8]) -> CommandReply
-    ensures { result ≡ getValuesSetupSelectiveOf payload.now }
+    ensures { result ≡ get_values_setup_selective_of payload.now }
 {
     let mask = tables::word_at(payload, 1);
     let raw = tables::unpack_fields(payload, 5, Sort::SetupValues, mask);
@@ -119,7 +119,7 @@ fn unpack_get_values_setup_selective(payload: &[u8]) -> CommandReply
 }
 
 fn unpack_get_stats(payload: &[u8]) -> CommandReply
-    ensures { result ≡ getStatsOf payload.now }
+    ensures { result ≡ get_stats_of payload.now }
 {
     let mask = tables::word_at(payload, 1);
     let raw = tables::unpack_fields(payload, 5, Sort::Stats, mask);
@@ -129,7 +129,7 @@ fn unpack_get_stats(payload: &[u8]) -> CommandReply
 }
 
 fn unpack_fw_version(payload: &[u8]) -> CommandReply
-    ensures { result ≡ fwVersionReplyOf payload.now }
+    ensures { result ≡ fw_version_reply_of payload.now }
 {
     let mut reply = blank(Kind::FwVersion);
     reply.fw_version = firmware::unpack_fw_version(payload);
@@ -137,7 +137,7 @@ fn unpack_fw_version(payload: &[u8]) -> CommandReply
 }
 
 fn unpack_fw_info(payload: &[u8]) -> CommandReply
-    ensures { result ≡ fwInfoReplyOf payload.now }
+    ensures { result ≡ fw_info_reply_of payload.now }
 {
     let mut reply = blank(Kind::FwInfo);
     reply.fw_info = firmware::unpack_fw_info(payload);
@@ -146,7 +146,7 @@ fn unpack_fw_info(payload: &[u8]) -> CommandReply
 
 // The reply that a good frame's payload carries, by its id.
 pub fn unpack_from(payload: &[u8]) -> CommandReply
-    ensures { result ≡ replyOf payload.now }
+    ensures { result ≡ reply_of payload.now }
 {
     let id = tables::byte_at(payload, 0);
     match id {
@@ -164,7 +164,7 @@ pub fn unpack_from(payload: &[u8]) -> CommandReply
 // The reply of the good frame that `frame` starts with. Its payload part, as long as the length byte says, is cut out here and
 // goes to the field readers. Of other bytes, what there is of such a part.
 pub fn reply_in(frame: &[u8]) -> CommandReply
-    ensures { result ≡ replyIn frame.now }
+    ensures { result ≡ reply_in frame.now }
 {
     let len = frame.len();
     if len < format::PAYLOAD_AT {
@@ -180,7 +180,7 @@ pub fn reply_in(frame: &[u8]) -> CommandReply
 // The reply that a good frame carries, or why there is none. Ports `decode` of src/command.rs: judged first, and the fields
 // read only of a good frame.
 pub fn decode(buf: &[u8]) -> Decoded
-    ensures { decoded result ≡ decodeOf buf.now }
+    ensures { decoded result ≡ decode_of buf.now }
 {
     match judge::judge(buf) {
         Consumed::To(count) => Decoded {

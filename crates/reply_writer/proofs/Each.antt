@@ -7,8 +7,8 @@ use native.Mathlib.Nat.{add-zero}
 use native.Mathlib.Numerals.{add-one}
 use lib.ListN.{length, get_or, drop, replicate, drop_of_length-le, length-append, length-drop, length-replicate}
 use lib.Seq.{drop-cons}
-use Rattle.format.specs.Format.{payloadAt}
-use Rattle.packer.specs.Numbers.{bigEndian, total, digits}
+use Rattle.format.specs.Format.{payload_at}
+use Rattle.packer.specs.Numbers.{big_endian, total, digits}
 use Rattle.packer.specs.Packing.{PackIs}
 use Rattle.packer.specs.declared.Packed.{Packed}
 use Rattle.packer.specs.declared.Packed.TheVariants.{Next}
@@ -17,8 +17,8 @@ use Rattle.packer.proofs.Writes.{digits-length, after-length, two-packs, none-pa
 use Rattle.tables.proofs.Turns.{Onward}
 
 -- the bytes of a list, a byte each
-abbrev pub eachOf : List ℕ → List ℕ
-eachOf part = digits (replicate (length part) 1) part
+abbrev pub each_of : List ℕ → List ℕ
+each_of part = digits (replicate (length part) 1) part
 
 ones : (n : ℕ) → total (replicate n 1) ≡ n
 unfolding total
@@ -42,15 +42,15 @@ then-packs {p} {q} {l} {m} {after} {at} {place} {r} {s} room w is next =
     two-packs room w (subst (λ (k : ℕ). PackIs q m k s after) is (next (omega arith)))
 
 -- an id, and numbers behind it
-pub fields-packed : (id : ℕ) (ws raw : List ℕ) {l m after : List ℕ} {p r : Packed} → payloadAt + length (digits (1 ∷ ws) (id ∷ raw)) ≤ length l
-    → PackIs (bigEndian 1 id) l payloadAt p m → PackIs (digits ws raw) m 3 r after → PackIs (digits (1 ∷ ws) (id ∷ raw)) l payloadAt r after
+pub fields-packed : (id : ℕ) (ws raw : List ℕ) {l m after : List ℕ} {p r : Packed} → payload_at + length (digits (1 ∷ ws) (id ∷ raw)) ≤ length l
+    → PackIs (big_endian 1 id) l payload_at p m → PackIs (digits ws raw) m 3 r after → PackIs (digits (1 ∷ ws) (id ∷ raw)) l payload_at r after
 unfolding digits
 fields-packed id ws raw room one two = then-packs room one (omega (arith, digits-length 1 id)) (λ _. two)
 
 -- an id, a mask, and numbers behind it
-pub masked_packed : (id mask : ℕ) (ws raw : List ℕ) {l m n after : List ℕ} {p q r : Packed} → payloadAt + length (digits (1 ∷ 4 ∷ ws) (id ∷ mask ∷ raw)) ≤ length l
-    → PackIs (bigEndian 1 id) l payloadAt p m → PackIs (bigEndian 4 mask) m 3 q n → PackIs (digits ws raw) n 7 r after
-    → PackIs (digits (1 ∷ 4 ∷ ws) (id ∷ mask ∷ raw)) l payloadAt r after
+pub masked_packed : (id mask : ℕ) (ws raw : List ℕ) {l m n after : List ℕ} {p q r : Packed} → payload_at + length (digits (1 ∷ 4 ∷ ws) (id ∷ mask ∷ raw)) ≤ length l
+    → PackIs (big_endian 1 id) l payload_at p m → PackIs (big_endian 4 mask) m 3 q n → PackIs (digits ws raw) n 7 r after
+    → PackIs (digits (1 ∷ 4 ∷ ws) (id ∷ mask ∷ raw)) l payload_at r after
 unfolding digits
 masked_packed id mask ws raw room one two three =
     then-packs room one (omega (arith, digits-length 1 id)) (λ room2. then-packs room2 two (omega (arith, digits-length 4 mask)) (λ _. three))
@@ -58,28 +58,28 @@ masked_packed id mask ws raw room one two three =
 -- ---- a turn
 
 -- before the first
-pub turns-start : (part l : List ℕ) (pos : ℕ) → Onward (eachOf (drop 0 part)) l (pos + 0) (eachOf part) l pos
-turns-start part l pos r after w = subst (λ (at : ℕ). PackIs (eachOf part) l at r after) (add-zero pos) w
+pub turns-start : (part l : List ℕ) (pos : ℕ) → Onward (each_of (drop 0 part)) l (pos + 0) (each_of part) l pos
+turns-start part l pos r after w = subst (λ (at : ℕ). PackIs (each_of part) l at r after) (add-zero pos) w
 
 module _ (part : List ℕ) (k : ℕ) (inside : k < length part) where
-  each_next : eachOf (drop k part) ≡ bigEndian 1 (get_or part k 0) ++ eachOf (drop (k + 1) part)
+  each_next : each_of (drop k part) ≡ big_endian 1 (get_or part k 0) ++ each_of (drop (k + 1) part)
   unfolding digits
   each_next = rw (drop-cons part k 0 inside, add-one)
 
-  module _ {buf m : List ℕ} {r : Packed} (pos : ℕ) (room : pos + length part ≤ length buf) (wrote : PackIs (bigEndian 1 (get_or part k 0)) buf (pos + k) r m) where
+  module _ {buf m : List ℕ} {r : Packed} (pos : ℕ) (room : pos + length part ≤ length buf) (wrote : PackIs (big_endian 1 (get_or part k 0)) buf (pos + k) r m) where
     pub turn-length : length m ≡ length buf
     turn-length = packs-length wrote (omega (arith, digits-length 1 (get_or part k 0)))
 
-    pub turn-next : {all first : List ℕ} {from : ℕ} → Onward (eachOf (drop k part)) buf (pos + k) all first from
-        → Onward (eachOf (drop (k + 1) part)) m (pos + (k + 1)) all first from
+    pub turn-next : {all first : List ℕ} {from : ℕ} → Onward (each_of (drop k part)) buf (pos + k) all first from
+        → Onward (each_of (drop (k + 1) part)) m (pos + (k + 1)) all first from
     turn-next on s after w =
         let left : length (drop k part) ≡ length part - k = length-drop k part in
-        let size : length (eachOf (drop k part)) ≡ length (drop k part) = bytes-length (length (drop k part)) (drop k part) refl in
+        let size : length (each_of (drop k part)) ≡ length (drop k part) = bytes-length (length (drop k part)) (drop k part) refl in
         on s after
         (rw each_next (then-packs (omega (arith, ap length (sym each_next))) wrote (omega (arith, digits-length 1 (get_or part k 0))) (λ _. w)))
 
 -- after the last
 pub turns-past : (part : List ℕ) (k : ℕ) → length part ≤ k → {buf all first : List ℕ} {at from : ℕ} → at ≤ length buf
-    → Onward (eachOf (drop k part)) buf at all first from → PackIs all first from (Next at) buf
+    → Onward (each_of (drop k part)) buf at all first from → PackIs all first from (Next at) buf
 unfolding digits
 turns-past part k past {buf} {at = at} room on = on (Next at) buf (rw (drop_of_length-le part {i = k} past) (none-packed buf at room))

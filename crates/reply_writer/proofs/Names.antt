@@ -7,31 +7,31 @@ use native.Mathlib.Omega.{arith}
 use lib.ListN.{length, take}
 use lib.Seq.{length-take-le}
 use Rattle.refusals.specs.Refusals.{Answer, ok, refused}
-use Rattle.refusals.specs.Answers.{placeOr}
-use Rattle.names.specs.Names.{sentOf}
+use Rattle.refusals.specs.Answers.{place_or}
+use Rattle.names.specs.Names.{sent_of}
 use Rattle.names.proofs.Sent.{sent-given}
-use Rattle.reply_writer.specs.Writer.{isName}
+use Rattle.reply_writer.specs.Writer.{is_name}
 
 -- what is sent of a name lies in it
-pub sent-inside : (room : ℕ) (held : List ℕ) → placeOr 0 (sentOf room held) ≤ length held
-sent-inside room held = go (sentOf room held) refl
+pub sent-inside : (room : ℕ) (held : List ℕ) → place_or 0 (sent_of room held) ≤ length held
+sent-inside room held = go (sent_of room held) refl
   where
-    go : (a : Answer ℕ) → sentOf room held ≡ a → placeOr 0 a ≤ length held
+    go : (a : Answer ℕ) → sent_of room held ≡ a → place_or 0 a ≤ length held
     go (ok next) e = (sent-given room held next e).inside
     go (refused why) e = omega arith
 
 -- the bytes of a name that are sent
-abbrev pub sentBytes : ℕ → List ℕ → List ℕ
-sentBytes room held = take (placeOr 0 (sentOf room held)) held
+abbrev pub sent_bytes : ℕ → List ℕ → List ℕ
+sent_bytes room held = take (place_or 0 (sent_of room held)) held
 
-pub sent-length : (room : ℕ) (held : List ℕ) → length (sentBytes room held) ≡ placeOr 0 (sentOf room held)
-sent-length room held = length-take-le (placeOr 0 (sentOf room held)) held (sent-inside room held)
+pub sent-length : (room : ℕ) (held : List ℕ) → length (sent_bytes room held) ≡ place_or 0 (sent_of room held)
+sent-length room held = length-take-le (place_or 0 (sent_of room held)) held (sent-inside room held)
 
 -- in a name that fills its room
-pub sent-in : {room n : ℕ} (held : List ℕ) → room ≡ length held → n ≡ placeOr 0 (sentOf (length held) held) → n ≡ placeOr 0 (sentOf room held)
+pub sent-in : {room n : ℕ} (held : List ℕ) → room ≡ length held → n ≡ place_or 0 (sent_of (length held) held) → n ≡ place_or 0 (sent_of room held)
 sent-in {room} {n} held long is = rw long is
 
 -- two names that fill their rooms
 pub both-in : {room : ℕ} {b : Bool} (first second : List ℕ) → room ≡ length first → room ≡ length second
-    → b ≡ (isName (length first) first && isName (length second) second) → b ≡ (isName room first && isName room second)
-both-in first second long long2 is = is ∙ ap₂ (λ (m n : ℕ). isName m first && isName n second) (sym long) (sym long2)
+    → b ≡ (is_name (length first) first && is_name (length second) second) → b ≡ (is_name room first && is_name room second)
+both-in first second long long2 is = is ∙ ap₂ (λ (m n : ℕ). is_name m first && is_name n second) (sym long) (sym long2)

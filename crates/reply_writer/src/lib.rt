@@ -1,22 +1,22 @@
 // A raw reply written as a frame: document 02, W4. The Rust only reads replies. The frame holds what `raw_reply::read_reply` reads: the id,
 // then the fields that the mask has, by the tables of crate `tables`, or the bytes and names of a firmware reply.
 ghost use Rattle.std.specs.Prelude.{◌≡◌, true, ◌&&◌, ◌∷◌, ◌+◌, ◌≤◌, length, take, replicate};
-ghost use Rattle.refusals.specs.Answers.{placeOr};
-ghost use Rattle.format.specs.Format.{payloadAt, payloadMax, nameRoom, hashRoom, allValues};
+ghost use Rattle.refusals.specs.Answers.{place_or};
+ghost use Rattle.format.specs.Format.{payload_at, payload_max, name_room, hash_room, all_values};
 ghost use Rattle.packer.specs.Numbers.{total, digits};
 ghost use Rattle.packer.specs.Packing.{PackIs};
-ghost use Rattle.names.specs.Names.{sentOf};
-ghost use Rattle.tables.specs.Tables.{widths, valuesTable};
+ghost use Rattle.names.specs.Names.{sent_of};
+ghost use Rattle.tables.specs.Tables.{widths, values_table};
 ghost use Rattle.tables.specs.Sorts.{table_of};
-ghost use Rattle.layout.specs.Layout.{maskWidths};
-ghost use Rattle.layout.specs.Replies.{fwVersion, fwVersionRest, fwInfo};
+ghost use Rattle.layout.specs.Layout.{mask_widths};
+ghost use Rattle.layout.specs.Replies.{fw_version_layout, fw_version_rest, fw_info_layout};
 ghost use Rattle.layout.specs.Writing.{written};
-ghost use Rattle.firmware.specs.Firmware.{versionRaws, infoRaws};
-ghost use Rattle.raw_telemetry.specs.Rows.{numbersOf};
-ghost use Rattle.raw_telemetry.specs.Records.{valuesRows};
-ghost use Rattle.reply.specs.Reply.{kindNumber};
+ghost use Rattle.firmware.specs.Firmware.{version_raws, info_raws};
+ghost use Rattle.raw_telemetry.specs.Rows.{numbers_of};
+ghost use Rattle.raw_telemetry.specs.Records.{values_rows};
+ghost use Rattle.reply.specs.Reply.{kind_number};
 ghost use Rattle.reply.specs.declared.Kind.TheVariants as kind;
-ghost use Rattle.reply_writer.specs.Writer.{isName, knownMask, goodNames, payloadOf, WriteIs};
+ghost use Rattle.reply_writer.specs.Writer.{is_name, known_mask, good_names, payload_of, WriteIs};
 
 use firmware::{FwInfo, RawFwVersion};
 use format::{FRAME_EXTRA, PAYLOAD_AT};
@@ -37,7 +37,7 @@ pub enum ReplyWritten {
 
 // Whether the mask of the kind that is written has no bit but its table's. GetValues sends no mask.
 fn known_mask(reply: RawReply) -> bool
-    ensures { result ≡ knownMask reply }
+    ensures { result ≡ known_mask reply }
 {
     let kind = reply.kind;
     match kind {
@@ -56,7 +56,7 @@ fn known_mask(reply: RawReply) -> bool
 
 // Whether bytes are a name that can be sent.
 fn is_name(held: &[u8]) -> bool
-    ensures { result ≡ isName (length held.now) held.now }
+    ensures { result ≡ is_name (length held.now) held.now }
 {
     match names::sent_len(held) {
         NameSent::Bytes(_) => true,
@@ -66,7 +66,7 @@ fn is_name(held: &[u8]) -> bool
 
 // Whether both are.
 fn are_names(first: &[u8], second: &[u8]) -> bool
-    ensures { result ≡ (isName (length first.now) first.now && isName (length second.now) second.now) }
+    ensures { result ≡ (is_name (length first.now) first.now && is_name (length second.now) second.now) }
 {
     if is_name(first) {
         return is_name(second);
@@ -76,7 +76,7 @@ fn are_names(first: &[u8], second: &[u8]) -> bool
 
 // The names of FwVersion. The length of an array is known only of a field of the parameter itself, so the record comes by itself.
 fn version_names(version: RawFwVersion) -> bool
-    ensures { result ≡ (isName nameRoom version.hw_name && isName nameRoom version.fw_name) }
+    ensures { result ≡ (is_name name_room version.hw_name && is_name name_room version.fw_name) }
 {
     let hw_name = version.hw_name;
     let fw_name = version.fw_name;
@@ -85,7 +85,7 @@ fn version_names(version: RawFwVersion) -> bool
 
 // The names of FwInfo.
 fn info_names(info: FwInfo) -> bool
-    ensures { result ≡ (isName hashRoom info.commit_hash && isName hashRoom info.user_commit_hash) }
+    ensures { result ≡ (is_name hash_room info.commit_hash && is_name hash_room info.user_commit_hash) }
 {
     let commit_hash = info.commit_hash;
     let user_commit_hash = info.user_commit_hash;
@@ -94,7 +94,7 @@ fn info_names(info: FwInfo) -> bool
 
 // Whether the names of the kind that is written can be sent.
 fn good_names(reply: RawReply) -> bool
-    ensures { result ≡ goodNames reply }
+    ensures { result ≡ good_names reply }
 {
     let kind = reply.kind;
     match kind {
@@ -110,7 +110,7 @@ fn good_names(reply: RawReply) -> bool
 
 // The bytes of a name that are sent, the NUL among them; none of one that is bad.
 fn name_len(held: &[u8]) -> usize
-    ensures { (result ≡ placeOr 0 (sentOf (length held.now) held.now)) × (result ≤ length held.now) }
+    ensures { (result ≡ place_or 0 (sent_of (length held.now) held.now)) × (result ≤ length held.now) }
 {
     match names::sent_len(held) {
         NameSent::Bytes(len) => len,
@@ -120,7 +120,7 @@ fn name_len(held: &[u8]) -> usize
 
 // A name at a position, without the zeros behind its NUL.
 fn pack_name(held: &[u8], buf: &mut [u8], pos: usize) -> Packed
-    ensures { PackIs (take (placeOr 0 (sentOf (length held.now) held.now)) held.now) buf.old pos result buf.new }
+    ensures { PackIs (take (place_or 0 (sent_of (length held.now) held.now)) held.now) buf.old pos result buf.new }
 {
     let len = name_len(held);
     packer::pack_bytes(buf, pos, &held[0..len])
@@ -128,14 +128,14 @@ fn pack_name(held: &[u8], buf: &mut [u8], pos: usize) -> Packed
 
 // The bytes of a masked reply: the id, the mask, and the fields that the mask has.
 fn masked_len(sort: Sort, mask: u32) -> usize
-    ensures { (result ≡ 5 + total (widths mask (table_of sort))) × (result ≤ payloadMax) }
+    ensures { (result ≡ 5 + total (widths mask (table_of sort))) × (result ≤ payload_max) }
 {
     5 + tables::span(sort, mask)
 }
 
 // The bytes of FwVersion: the id, 26 others, and its names.
 fn fw_version_len(version: RawFwVersion) -> usize
-    ensures { (result ≡ length (kindNumber kind.FwVersion ∷ written fwVersion (versionRaws version))) × (result ≤ payloadMax) }
+    ensures { (result ≡ length (kind_number kind.FwVersion ∷ written fw_version_layout (version_raws version))) × (result ≤ payload_max) }
 {
     let hw_name = version.hw_name;
     let fw_name = version.fw_name;
@@ -144,7 +144,7 @@ fn fw_version_len(version: RawFwVersion) -> usize
 
 // The bytes of FwInfo: the id, three others, and its names.
 fn fw_info_len(info: FwInfo) -> usize
-    ensures { (result ≡ length (kindNumber kind.FwInfo ∷ written fwInfo (infoRaws info))) × (result ≤ payloadMax) }
+    ensures { (result ≡ length (kind_number kind.FwInfo ∷ written fw_info_layout (info_raws info))) × (result ≤ payload_max) }
 {
     let commit_hash = info.commit_hash;
     let user_commit_hash = info.user_commit_hash;
@@ -153,7 +153,7 @@ fn fw_info_len(info: FwInfo) -> usize
 
 // The bytes of the payload. GetValues has every field, and no mask.
 fn payload_len(reply: RawReply) -> usize
-    ensures { (result ≡ length (payloadOf reply)) × (result ≤ payloadMax) }
+    ensures { (result ≡ length (payload_of reply)) × (result ≤ payload_max) }
 {
     let kind = reply.kind;
     match kind {
@@ -188,8 +188,8 @@ fn pack_masked(
     raw: [u32; format::TABLE_ROWS],
     buf: &mut [u8],
 ) -> Packed
-    requires { payloadAt + length (digits (1 ∷ maskWidths mask (table_of sort)) (id ∷ mask ∷ raw)) ≤ length buf.old }
-    ensures { PackIs (digits (1 ∷ maskWidths mask (table_of sort)) (id ∷ mask ∷ raw)) buf.old payloadAt result buf.new }
+    requires { payload_at + length (digits (1 ∷ mask_widths mask (table_of sort)) (id ∷ mask ∷ raw)) ≤ length buf.old }
+    ensures { PackIs (digits (1 ∷ mask_widths mask (table_of sort)) (id ∷ mask ∷ raw)) buf.old payload_at result buf.new }
 {
     packer::pack_u8(buf, PAYLOAD_AT, id);
     packer::pack_u32(buf, PAYLOAD_AT + 1, mask);
@@ -198,8 +198,8 @@ fn pack_masked(
 
 // GetValues: the id, and every field.
 fn pack_get_values(values: RawValues, buf: &mut [u8]) -> Packed
-    requires { payloadAt + length (digits (1 ∷ widths allValues valuesTable) (kindNumber kind.GetValues ∷ numbersOf valuesTable (valuesRows values))) ≤ length buf.old }
-    ensures { PackIs (digits (1 ∷ widths allValues valuesTable) (kindNumber kind.GetValues ∷ numbersOf valuesTable (valuesRows values))) buf.old payloadAt result buf.new }
+    requires { payload_at + length (digits (1 ∷ widths all_values values_table) (kind_number kind.GetValues ∷ numbers_of values_table (values_rows values))) ≤ length buf.old }
+    ensures { PackIs (digits (1 ∷ widths all_values values_table) (kind_number kind.GetValues ∷ numbers_of values_table (values_rows values))) buf.old payload_at result buf.new }
 {
     packer::pack_u8(buf, PAYLOAD_AT, format::GET_VALUES);
     tables::pack_fields(
@@ -213,8 +213,8 @@ fn pack_get_values(values: RawValues, buf: &mut [u8]) -> Packed
 
 // What follows hw_name in FwVersion.
 fn pack_fw_version_after(version: RawFwVersion, buf: &mut [u8], pos: usize) -> Packed
-    requires { pos + length (written fwVersionRest (versionRaws version).1.1) ≤ length buf.old }
-    ensures { PackIs (written fwVersionRest (versionRaws version).1.1) buf.old pos result buf.new }
+    requires { pos + length (written fw_version_rest (version_raws version).1.1) ≤ length buf.old }
+    ensures { PackIs (written fw_version_rest (version_raws version).1.1) buf.old pos result buf.new }
 {
     let uuid = version.uuid;
     let single = [
@@ -236,8 +236,8 @@ fn pack_fw_version_after(version: RawFwVersion, buf: &mut [u8], pos: usize) -> P
 }
 
 fn pack_fw_version(version: RawFwVersion, buf: &mut [u8]) -> Packed
-    requires { payloadAt + length (kindNumber kind.FwVersion ∷ written fwVersion (versionRaws version)) ≤ length buf.old }
-    ensures { PackIs (kindNumber kind.FwVersion ∷ written fwVersion (versionRaws version)) buf.old payloadAt result buf.new }
+    requires { payload_at + length (kind_number kind.FwVersion ∷ written fw_version_layout (version_raws version)) ≤ length buf.old }
+    ensures { PackIs (kind_number kind.FwVersion ∷ written fw_version_layout (version_raws version)) buf.old payload_at result buf.new }
 {
     let front = [format::FW_VERSION, version.major, version.minor];
     let hw_name = version.hw_name;
@@ -248,8 +248,8 @@ fn pack_fw_version(version: RawFwVersion, buf: &mut [u8]) -> Packed
 }
 
 fn pack_fw_info(info: FwInfo, buf: &mut [u8]) -> Packed
-    requires { payloadAt + length (kindNumber kind.FwInfo ∷ written fwInfo (infoRaws info)) ≤ length buf.old }
-    ensures { PackIs (kindNumber kind.FwInfo ∷ written fwInfo (infoRaws info)) buf.old payloadAt result buf.new }
+    requires { payload_at + length (kind_number kind.FwInfo ∷ written fw_info_layout (info_raws info)) ≤ length buf.old }
+    ensures { PackIs (kind_number kind.FwInfo ∷ written fw_info_layout (info_raws info)) buf.old payload_at result buf.new }
 {
     let front = [
         format::FW_INFO,
@@ -267,8 +267,8 @@ fn pack_fw_info(info: FwInfo, buf: &mut [u8]) -> Packed
 
 // The payload at its place in a buffer that has room for it.
 fn pack_payload(reply: RawReply, buf: &mut [u8]) -> Packed
-    requires { payloadAt + length (payloadOf reply) ≤ length buf.old }
-    ensures { PackIs (payloadOf reply) buf.old payloadAt result buf.new }
+    requires { payload_at + length (payload_of reply) ≤ length buf.old }
+    ensures { PackIs (payload_of reply) buf.old payload_at result buf.new }
 {
     let kind = reply.kind;
     match kind {
@@ -302,7 +302,7 @@ fn pack_payload(reply: RawReply, buf: &mut [u8]) -> Packed
 
 // The frame of a reply whose mask and names are good. With room for it `frame::wrap` refuses nothing: no payload of a reply is too long.
 fn write_good(reply: RawReply, buf: &mut [u8]) -> ReplyWritten
-    requires { (knownMask reply ≡ true) × (goodNames reply ≡ true) }
+    requires { (known_mask reply ≡ true) × (good_names reply ≡ true) }
     ensures { WriteIs reply buf.old result buf.new }
 {
     let len = payload_len(reply);

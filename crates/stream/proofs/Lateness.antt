@@ -6,7 +6,7 @@ use native.Mathlib.Omega.{arith}
 use native.Mathlib.Nat.{zero-add}
 use lib.ListN.{length, take, drop, length-drop, take-append-drop}
 use lib.Seq.{drop-drop, drop-append-le, take-append-le}
-use Rattle.stream.specs.Reading.{good, notYet, movesOn, Judge, FrameAt, Steady, Bounded, readFrom, read_all, repliesOf}
+use Rattle.stream.specs.Reading.{good, not_yet, moves_on, Judge, FrameAt, Steady, Bounded, read_from, read_all, replies_of}
 use Rattle.stream.specs.Lateness.{ToldBefore, NoneOver, GivenAt, InTime}
 use Rattle.stream.proofs.Turns.{by-reading, at-good-frame, at-noise, good-told, good-no-noise}
 use Rattle.stream.proofs.Frames.{each-front, reply-given}
@@ -23,12 +23,12 @@ in-time-later judge late later stream taken replies more sooner p n r stands cle
 
 -- at every position before p it can be told whether a good frame starts there
 abbrev Settled : {R : Type 0} → Judge R → List ℕ → ℕ → Type 0
-Settled judge xs p = (q : ℕ) → q < p → judge (drop q xs) ≡ notYet → ⊥
+Settled judge xs p = (q : ℕ) → q < p → judge (drop q xs) ≡ not_yet → ⊥
 
 module _ {R : Type 0} (judge : Judge R) (steady : Steady judge) where
   -- what is settled stays so from m bytes further on
   settled_on : (m q : ℕ) (l : List ℕ) → m ≤ q → Settled judge l q → Settled judge (drop m l) (q - m)
-  settled_on m q l h s j k = subst (λ (x : List ℕ). judge x ≡ notYet → ⊥) (sym (drop-drop j m l)) (s (m + j) (omega arith))
+  settled_on m q l h s j k = subst (λ (x : List ℕ). judge x ≡ not_yet → ⊥) (sym (drop-drop j m l)) (s (m + j) (omega arith))
 
   good-on : (m q : ℕ) (l : List ℕ) (n : ℕ) (r : R) → m ≤ q → judge (drop q l) ≡ good n r → judge (drop (q - m) (drop m l)) ≡ good n r
   good-on m q l n r h e =
@@ -45,7 +45,7 @@ module _ {R : Type 0} (judge : Judge R) (steady : Steady judge) where
     abbrev Claim : ℕ → List ℕ → List (FrameAt R) → Type 0
     Claim place l frames = (q : ℕ) → place + q ≡ p → judge (drop q l) ≡ good n r → Settled judge l q → NoneOver p frames → GivenAt p n r frames
 
-    at-stop : (place : ℕ) (l : List ℕ) (frames : List (FrameAt R)) → judge l ≡ notYet → Claim place l frames
+    at-stop : (place : ℕ) (l : List ℕ) (frames : List (FrameAt R)) → judge l ≡ not_yet → Claim place l frames
     at-stop place l frames e zero k stands s h = absurd (good-told judge steady l n r stands e)
     at-stop place l frames e (suc q) k stands s h = absurd (s zero (omega arith) e)
 
@@ -63,14 +63,14 @@ module _ {R : Type 0} (judge : Judge R) (steady : Steady judge) where
         let ends : place + m ≤ p = h.0 (omega arith) in
         behind-earlier _ frames ends (ih (suc q - m) (omega arith) (good-on m (suc q) l n r (omega arith) stands) (settled_on m (suc q) l (omega arith) s) h.1)
 
-    past-noise : (place : ℕ) (l : List ℕ) (frames : List (FrameAt R)) → judge l ≡ movesOn → Claim (place + 1) (drop 1 l) frames → Claim place l frames
+    past-noise : (place : ℕ) (l : List ℕ) (frames : List (FrameAt R)) → judge l ≡ moves_on → Claim (place + 1) (drop 1 l) frames → Claim place l frames
     past-noise place l frames e ih zero k stands s h = absurd (good-no-noise judge steady l n r stands e)
     past-noise place l frames e ih (suc q) k stands s h =
         ih (suc q - 1) (omega arith) (good-on 1 (suc q) l n r (omega arith) stands) (settled_on 1 (suc q) l (omega arith) s) h
 
-    claim : (place : ℕ) (l : List ℕ) → Claim place l (readFrom judge place l).frames
+    claim : (place : ℕ) (l : List ℕ) → Claim place l (read_from judge place l).frames
     claim =
-        by-reading judge steady (λ place l. Claim place l (readFrom judge place l).frames)
+        by-reading judge steady (λ place l. Claim place l (read_from judge place l).frames)
         (λ place l e. at-stop place l _ e)
         (λ place l m t e ih. rw (at-good-frame judge steady place l m t e) (at-frame place l m t _ e ih))
         (λ place l e ih. rw (at-noise judge steady place l e) (past-noise place l _ e ih))
@@ -106,8 +106,8 @@ module _ {R : Type 0} (judge : Judge R) (steady : Steady judge) where
 
   -- So it is in time wherever the replies are those of the reading of what is taken.
   pub in-time : (late : ℕ) → ToldBefore judge late → (stream taken ahead : List ℕ) (replies : List R) → stream ≡ taken ++ ahead
-      → replies ≡ repliesOf (read_all judge taken).frames → InTime judge late stream taken replies
+      → replies ≡ replies_of (read_all judge taken).frames → InTime judge late stream taken replies
   unfolding given_stays
   in-time late before stream taken ahead replies front same p n r stands clear own enough =
       let a = given-in-time late before taken ahead p n r (rw front at stands) (rw front at clear) own enough in
-      rw front (record { frame = given_stays taken ahead p n r a; later = repliesOf a.after; exactly = same ∙ reply-given a })
+      rw front (record { frame = given_stays taken ahead p n r a; later = replies_of a.after; exactly = same ∙ reply-given a })

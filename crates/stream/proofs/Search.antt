@@ -6,8 +6,8 @@ use native.Mathlib.Omega.{arith}
 use native.Mathlib.Nat.{add-zero, add_assoc, zero-add}
 use lib.ListN.{length, drop, length-drop}
 use lib.Seq.{drop-drop}
-use Rattle.stream.specs.Reading.{Verdict, good, notYet, movesOn, Judge, Reading, Steady, stops, frameThen, readFrom}
-use Rattle.stream.specs.Searching.{Search, found, nothing, sizeFound, further, searchAt, search}
+use Rattle.stream.specs.Reading.{Verdict, good, not_yet, moves_on, Judge, Reading, Steady, stops, frame_then, read_from}
+use Rattle.stream.specs.Searching.{Search, found, nothing, size_found, further, search_at, search}
 use Rattle.stream.proofs.Turns.{by-reading, idle, at-good-frame, at-noise, noise-some}
 
 -- A search begun b bytes earlier, and that a bytes earlier.
@@ -17,9 +17,9 @@ further-further a b (nothing over rest) = ap (λ (k : ℕ). nothing k rest) (sym
 
 module _ {R : Type 0} where
   -- the bytes that a search moved over, found a frame or not
-  abbrev pub movedOver : Search R → ℕ
-  movedOver (found over n r after) = over
-  movedOver (nothing over rest) = over
+  abbrev pub moved_over : Search R → ℕ
+  moved_over (found over n r after) = over
+  moved_over (nothing over rest) = over
 
   -- what it leaves unread
   abbrev pub rest_of : Search R → List ℕ
@@ -30,38 +30,38 @@ module _ {R : Type 0} where
     -- what a search of l may come to: a good frame where it ended, or "not yet" there; and the bytes behind are left
     abbrev EndsAt : List ℕ → Search R → Type 0
     EndsAt l (found over n r after) = (judge (drop over l) ≡ good n r) × (after ≡ drop (over + n) l)
-    EndsAt l (nothing over rest) = (judge (drop over l) ≡ notYet) × (rest ≡ drop over l)
+    EndsAt l (nothing over rest) = (judge (drop over l) ≡ not_yet) × (rest ≡ drop over l)
 
     -- the frame that a search from `place` on found is given, and then what the reading of the bytes after it gives
     abbrev pub read_on : ℕ → Search R → Reading R
-    read_on place (found over n r after) = frameThen (record { place = place + over; size = n; reply = r }) (readFrom judge (place + over + n) after)
+    read_on place (found over n r after) = frame_then (record { place = place + over; size = n; reply = r }) (read_from judge (place + over + n) after)
     read_on place (nothing over rest) = stops rest
 
-accounts-further : {R : Type 0} (s : Search R) → movedOver (further 1 s) + sizeFound (further 1 s) + length (rest_of (further 1 s)) ≡ suc (movedOver s + sizeFound s + length (rest_of s))
+accounts-further : {R : Type 0} (s : Search R) → moved_over (further 1 s) + size_found (further 1 s) + length (rest_of (further 1 s)) ≡ suc (moved_over s + size_found s + length (rest_of s))
 accounts-further (found over n r after) = omega arith
 accounts-further (nothing over rest) = omega arith
 
 module _ {R : Type 0} (judge : Judge R) (steady : Steady judge) where
   -- One turn of a search.
-  search-turn : (l : List ℕ) (v : Verdict R) → judge l ≡ v → search judge l ≡ searchAt v l (search judge (drop 1 l))
+  search-turn : (l : List ℕ) (v : Verdict R) → judge l ≡ v → search judge l ≡ search_at v l (search judge (drop 1 l))
   unfolding search
-  search-turn [] v e = ap (λ (w : Verdict R). searchAt w [] (search judge [])) (sym steady.empty ∙ e)
-  search-turn (x ∷ xs) v e = ap (λ (w : Verdict R). searchAt w (x ∷ xs) (search judge xs)) e
+  search-turn [] v e = ap (λ (w : Verdict R). search_at w [] (search judge [])) (sym steady.empty ∙ e)
+  search-turn (x ∷ xs) v e = ap (λ (w : Verdict R). search_at w (x ∷ xs) (search judge xs)) e
 
   -- A good frame at the front is found; where the judge says "not yet" nothing is; any other byte is moved over.
   pub search-good : (l : List ℕ) (n : ℕ) (r : R) → judge l ≡ good n r → search judge l ≡ found 0 n r (drop n l)
   search-good l n r e = search-turn l (good n r) e
 
-  pub search-not-yet : (l : List ℕ) → judge l ≡ notYet → search judge l ≡ nothing 0 l
-  search-not-yet l e = search-turn l notYet e
+  pub search-not-yet : (l : List ℕ) → judge l ≡ not_yet → search judge l ≡ nothing 0 l
+  search-not-yet l e = search-turn l not_yet e
 
-  pub search-noise : (l : List ℕ) → judge l ≡ movesOn → search judge l ≡ further 1 (search judge (drop 1 l))
-  search-noise l e = search-turn l movesOn e
+  pub search-noise : (l : List ℕ) → judge l ≡ moves_on → search judge l ≡ further 1 (search judge (drop 1 l))
+  search-noise l e = search-turn l moves_on e
 
   -- The bytes moved over, those of the frame found and those left are all the bytes there were.
-  pub search-account : (l : List ℕ) → movedOver (search judge l) + sizeFound (search judge l) + length (rest_of (search judge l)) ≡ length l
+  pub search-account : (l : List ℕ) → moved_over (search judge l) + size_found (search judge l) + length (rest_of (search judge l)) ≡ length l
   search-account =
-      by-reading judge steady (λ place l. movedOver (search judge l) + sizeFound (search judge l) + length (rest_of (search judge l)) ≡ length l)
+      by-reading judge steady (λ place l. moved_over (search judge l) + size_found (search judge l) + length (rest_of (search judge l)) ≡ length l)
       (λ place l e. rw (search-not-yet l e) (omega arith))
       (λ place l n r e ih. rw (search-good l n r e) (omega (arith, length-drop n l, (steady.sized l n r e).1)))
       (λ place l e ih. rw (search-noise l e) (accounts-further (search judge (drop 1 l)) ∙ omega (arith, ih, length-drop 1 l, noise-some judge steady l e)))
@@ -96,22 +96,22 @@ module _ {R : Type 0} (judge : Judge R) (steady : Steady judge) where
   nothing-account l over rest e = let a = rw e at (search-account l) in omega arith
 
   -- and of those left the judge says "not yet".
-  pub nothing-waits : (l : List ℕ) (over : ℕ) (rest : List ℕ) → search judge l ≡ nothing over rest → judge rest ≡ notYet
+  pub nothing-waits : (l : List ℕ) (over : ℕ) (rest : List ℕ) → search judge l ≡ nothing over rest → judge rest ≡ not_yet
   nothing-waits l over rest e = let h = rw e at (search-ends l) in ap judge h.1 ∙ h.0
 
   read-on-further : (place : ℕ) (s : Search R) → read_on judge (place + 1) s ≡ read_on judge place (further 1 s)
   read-on-further place (found over n r after) =
-      ap (λ (at : ℕ). frameThen (record { place = at; size = n; reply = r }) (readFrom judge (at + n) after)) (add_assoc place 1 over)
+      ap (λ (at : ℕ). frame_then (record { place = at; size = n; reply = r }) (read_from judge (at + n) after)) (add_assoc place 1 over)
   read-on-further place (nothing over rest) = refl
 
-  read-on-here : (place n : ℕ) (r : R) (after : List ℕ) → frameThen (record { place = place; size = n; reply = r }) (readFrom judge (place + n) after) ≡ read_on judge place (found 0 n r after)
+  read-on-here : (place n : ℕ) (r : R) (after : List ℕ) → frame_then (record { place = place; size = n; reply = r }) (read_from judge (place + n) after) ≡ read_on judge place (found 0 n r after)
   read-on-here place n r after =
-      ap (λ (at : ℕ). frameThen (record { place = at; size = n; reply = r }) (readFrom judge (at + n) after)) (sym (add-zero place))
+      ap (λ (at : ℕ). frame_then (record { place = at; size = n; reply = r }) (read_from judge (at + n) after)) (sym (add-zero place))
 
   -- The reading is one search, and then the reading of what is behind what was found.
-  pub search-reading : (place : ℕ) (l : List ℕ) → readFrom judge place l ≡ read_on judge place (search judge l)
+  pub search-reading : (place : ℕ) (l : List ℕ) → read_from judge place l ≡ read_on judge place (search judge l)
   search-reading =
-      by-reading judge steady (λ place l. readFrom judge place l ≡ read_on judge place (search judge l))
+      by-reading judge steady (λ place l. read_from judge place l ≡ read_on judge place (search judge l))
       (λ place l e. idle judge steady place l e ∙ sym (ap (read_on judge place) (search-not-yet l e)))
       (λ place l n r e ih. at-good-frame judge steady place l n r e ∙ read-on-here place n r (drop n l) ∙ sym (ap (read_on judge place) (search-good l n r e)))
       (λ place l e ih. at-noise judge steady place l e ∙ ih ∙ read-on-further place (search judge (drop 1 l)) ∙ sym (ap (read_on judge place) (search-noise l e)))

@@ -1,12 +1,12 @@
 -- The words of the lateness claim, over any judge: a start before a good frame that can be told, a frame that no earlier frame of the
 -- reading overlaps, a frame that is given, and given in time.
 use Rattle.std.specs.Prelude.{◌≡◌, List, [], ◌∷◌, ◌++◌, ℕ, ◌+◌, ◌<◌, ◌≤◌, length, take, drop}
-use Rattle.stream.specs.Reading.{Judge, good, notYet, FrameAt, read_all, repliesOf}
+use Rattle.stream.specs.Reading.{Judge, good, not_yet, FrameAt, read_all, replies_of}
 
 module _ {R : Type 0} (judge : Judge R) where
   -- How long a start k bytes before a good frame can stay undecided: `enough` bytes, counted from the start, tell it
   abbrev pub ToldAt : (k enough : ℕ) → Type 0
-  ToldAt k enough = (l : List ℕ) (n : ℕ) (r : R) → judge (drop k l) ≡ good n r → enough ≤ length l → judge l ≡ notYet → ⊥
+  ToldAt k enough = (l : List ℕ) (n : ℕ) (r : R) → judge (drop k l) ≡ good n r → enough ≤ length l → judge l ≡ not_yet → ⊥
 
   -- Every start before a good frame is told by `late` bytes counted from that frame's first: they are k + late counted from the start
   pub record ToldBefore (late : ℕ) : Type 0 where
@@ -34,7 +34,7 @@ module _ {R : Type 0} where
   pub record GivenSoFar (p n : ℕ) (r : R) (uncut : List (FrameAt R)) (replies : List R) : Type 0 where
     pub frame : GivenAt p n r uncut
     pub later : List R
-    pub exactly : replies ≡ repliesOf frame.before ++ r ∷ later
+    pub exactly : replies ≡ replies_of frame.before ++ r ∷ later
 
 -- `taken` is the front of the stream that was taken in and asked for, and `replies` are the replies so far. At p of the stream stands a frame that
 -- is good by its own n bytes. No earlier frame of the stream's reading reaches over p. Its last byte is taken, and so are `late` bytes counted from

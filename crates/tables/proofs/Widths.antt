@@ -5,9 +5,9 @@ use mathlib.Core.List.{List, [], ◌∷◌, ◌++◌}
 use Prim.Native.Nat.{ℕ, zero, suc, ◌+◌, ◌≤◌, ◌<◌}
 use native.Mathlib.Omega.{arith}
 use lib.ListN.{length, get_or, take, replicate}
-use Rattle.packer.specs.Numbers.{beAt, total, numbersAt}
+use Rattle.packer.specs.Numbers.{be_at, total, numbers_at}
 use Rattle.tables.specs.Rows.{MaskBits}
-use Rattle.tables.specs.Tables.{width_of, Field, hasBit, takes, widths, most}
+use Rattle.tables.specs.Tables.{width_of, Field, has_bit, takes, widths, most}
 
 cond-most : (p : Bool) (n : ℕ) → cond p n 0 ≤ n
 cond-most true n = omega arith
@@ -16,7 +16,7 @@ cond-most false n = omega arith
 pub widths-most : (table : List Field) (mask : ℕ) → total (widths mask table) ≤ most table
 unfolding total widths takes most
 widths-most [] mask = omega arith
-widths-most (f ∷ table) mask = omega (arith, cond-most (hasBit mask f.bit) (width_of f.coding), widths-most table mask)
+widths-most (f ∷ table) mask = omega (arith, cond-most (has_bit mask f.bit) (width_of f.coding), widths-most table mask)
 
 pub widths-length : (table : List Field) (mask : ℕ) → length (widths mask table) ≡ length table
 unfolding widths
@@ -27,8 +27,8 @@ module _ (mask : ℕ) (s : List ℕ) (other : Field) where
   -- a field's bytes follow those of the fields before it
   pub raw_at
       : (table : List Field) (at k : ℕ) → k < length table
-      → get_or (numbersAt (widths mask table) s at) k 0 ≡ beAt s (at + total (widths mask (take k table))) (takes mask (get_or table k other))
-  unfolding numbersAt total widths
+      → get_or (numbers_at (widths mask table) s at) k 0 ≡ be_at s (at + total (widths mask (take k table))) (takes mask (get_or table k other))
+  unfolding numbers_at total widths
   raw_at [] at k inside = absurd (omega arith)
   raw_at (f ∷ table) at zero inside = let here : at + 0 ≡ at = omega arith in rw here
   raw_at (f ∷ table) at (suc k) inside =
@@ -38,14 +38,14 @@ module _ (mask : ℕ) (s : List ℕ) (other : Field) where
 
   -- one that the mask has
   pub raw-present
-      : (table : List Field) (at k : ℕ) → k < length table → hasBit mask (get_or table k other).bit ≡ true
-      → get_or (numbersAt (widths mask table) s at) k 0 ≡ beAt s (at + total (widths mask (take k table))) (width_of (get_or table k other).coding)
+      : (table : List Field) (at k : ℕ) → k < length table → has_bit mask (get_or table k other).bit ≡ true
+      → get_or (numbers_at (widths mask table) s at) k 0 ≡ be_at s (at + total (widths mask (take k table))) (width_of (get_or table k other).coding)
   unfolding takes
   raw-present table at k inside has = rw (raw_at table at k inside, has)
 
   -- one that it lacks: "An absent field is zero"
-  pub raw-absent : (table : List Field) (at k : ℕ) → hasBit mask (get_or table k other).bit ≡ false → get_or (numbersAt (widths mask table) s at) k 0 ≡ 0
-  unfolding numbersAt widths takes beAt
+  pub raw-absent : (table : List Field) (at k : ℕ) → has_bit mask (get_or table k other).bit ≡ false → get_or (numbers_at (widths mask table) s at) k 0 ≡ 0
+  unfolding numbers_at widths takes be_at
   raw-absent [] at k lacks = refl
   raw-absent (f ∷ table) at zero lacks = rw lacks
   raw-absent (f ∷ table) at (suc k) lacks = raw-absent table (at + takes mask f) k lacks

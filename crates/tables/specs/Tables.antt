@@ -1,15 +1,15 @@
 -- The masked replies, document 01, "Reply fields": the field tables, once, and the widths that a mask leaves of them.
 use Rattle.std.specs.Prelude.{ℕ, ◌+◌, ◌/◌, ◌%◌, ◌^◌, Bool, cond, List, [], ◌∷◌, eqb, get_or}
 
--- "hS is a signed 16-bit number over S, wS a signed 32-bit number over S, i and u signed and unsigned 32-bit, b a byte, F a binary32 by its bits."
--- `faultByte` is the b of fault_code: "Fault bytes 0 to 29 have names".
+-- "h_s is a signed 16-bit number over S, w_s a signed 32-bit number over S, i and u signed and unsigned 32-bit, b a byte, F a binary32 by its bits."
+-- `fault_byte` is the b of fault_code: "Fault bytes 0 to 29 have names".
 pub data Coding : Type 0 where
   h : ℕ → Coding
   w : ℕ → Coding
   i : Coding
   u : Coding
   b : Coding
-  faultByte : Coding
+  fault_byte : Coding
   F : Coding
 
 -- the bytes that it takes
@@ -19,7 +19,7 @@ width_of (w scale) = 4
 width_of i = 4
 width_of u = 4
 width_of b = 1
-width_of faultByte = 1
+width_of fault_byte = 1
 width_of F = 4
 
 -- a field: the bit of the mask that governs it, and how its number is coded
@@ -31,8 +31,8 @@ abbrev pub field : ℕ → Coding → Field
 field bit coding = record { bit = bit; coding = coding }
 
 -- GetValuesSelective, and GetValues as the mask of all ones. "Bit 18 governs the three temp_mosfet1..3 together."
-abbrev pub valuesTable : List Field
-valuesTable =
+abbrev pub values_table : List Field
+values_table =
     field 0 (h 10)  -- temp_mosfet
     ∷ field 1 (h 10)  -- temp_motor
     ∷ field 2 (w 100)  -- avg_current_motor
@@ -48,7 +48,7 @@ valuesTable =
     ∷ field 12 (w 10000)  -- watt_hours_charged
     ∷ field 13 i  -- tachometer
     ∷ field 14 i  -- tachometer_abs
-    ∷ field 15 faultByte  -- fault_code
+    ∷ field 15 fault_byte  -- fault_code
     ∷ field 16 (w 1000000)  -- pid_pos
     ∷ field 17 b  -- controller_id
     ∷ field 18 (h 10)  -- temp_mosfet1
@@ -60,8 +60,8 @@ valuesTable =
     ∷ []
 
 -- GetValuesSetupSelective
-abbrev pub setupTable : List Field
-setupTable =
+abbrev pub setup_table : List Field
+setup_table =
     field 0 (h 10)  -- temp_mosfet
     ∷ field 1 (h 10)  -- temp_motor
     ∷ field 2 (w 100)  -- avg_current_motor
@@ -78,7 +78,7 @@ setupTable =
     ∷ field 13 (w 1000)  -- distance
     ∷ field 14 (w 1000)  -- distance_abs
     ∷ field 15 (w 1000000)  -- pid_pos
-    ∷ field 16 faultByte  -- fault_code
+    ∷ field 16 fault_byte  -- fault_code
     ∷ field 17 b  -- controller_id
     ∷ field 18 b  -- num_vescs
     ∷ field 19 (w 1000)  -- watt_hours_battery_left
@@ -87,8 +87,8 @@ setupTable =
     ∷ []
 
 -- GetStats: "bits 0 to 10, each F"
-abbrev pub statsTable : List Field
-statsTable =
+abbrev pub stats_table : List Field
+stats_table =
     field 0 F  -- speed_avg
     ∷ field 1 F  -- speed_max
     ∷ field 2 F  -- power_avg
@@ -107,12 +107,12 @@ abbrev pub entry : List Field → ℕ → Field
 entry table k = get_or table k (field 0 b)
 
 -- whether a mask has a bit
-unfoldable pub hasBit : ℕ → ℕ → Bool
-hasBit mask bit = eqb (mask / 2 ^ bit % 2) 1
+unfoldable pub has_bit : ℕ → ℕ → Bool
+has_bit mask bit = eqb (mask / 2 ^ bit % 2) 1
 
 -- the bytes that a field takes under a mask: none where its bit is not set
 unfoldable pub takes : ℕ → Field → ℕ
-takes mask f = cond (hasBit mask f.bit) (width_of f.coding) 0
+takes mask f = cond (has_bit mask f.bit) (width_of f.coding) 0
 
 -- their widths under a mask, in the table's order: "mask u, then those fields in that order whose bit is set"; "Other mask bits consume nothing."
 unfoldable pub widths : ℕ → List Field → List ℕ

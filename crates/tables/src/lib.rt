@@ -3,12 +3,12 @@
 // and `unpack_get_stats` of src/command.rs. A byte past the end of a slice is read as 0: `judge` has
 // seen that a good frame has every byte. Document 02, W4, has them written by the same tables.
 ghost use Rattle.std.specs.Prelude.{true, ◌↔◌, ◌≡◌, ◌≤◌, ◌<◌, length, drop, get_or};
-ghost use Rattle.packer.specs.Numbers.{beAt, total, numbersAt, digits};
+ghost use Rattle.packer.specs.Numbers.{be_at, total, numbers_at, digits};
 ghost use Rattle.packer.specs.Packing.{PackIs};
 ghost use Rattle.tables.specs.Tables.{widths};
 ghost use Rattle.tables.specs.Bits.{HasBits};
-ghost use Rattle.tables.specs.Sorts.{table_of, knownBits};
-ghost use Rattle.tables.specs.Rows.{Rows, rowTakes, widthsBy, padded};
+ghost use Rattle.tables.specs.Sorts.{table_of, known_bits};
+ghost use Rattle.tables.specs.Rows.{Rows, row_takes, widths_by, padded};
 
 use packer::Packed;
 use refusals::EncodeError;
@@ -30,7 +30,7 @@ pub fn has_bits(mask: u32, bits: u32) -> bool
 
 // Whether a mask has no bit but those of the reply's table.
 pub fn known_bits(sort: Sort, mask: u32) -> bool
-    ensures { result ≡ knownBits sort mask }
+    ensures { result ≡ known_bits sort mask }
 {
     match sort {
         Sort::Values => mask < 1 << format::VALUES_BITS,
@@ -109,7 +109,7 @@ const STATS_TABLE: [u8; 11] = [
 
 // The bytes that a row's field takes under a mask.
 fn takes(mask: u32, row: u8) -> usize
-    ensures { result ≡ rowTakes mask row }
+    ensures { result ≡ row_takes mask row }
 {
     if (mask >> (row / 8)) % 2 == 1 {
         (row % 8) as usize
@@ -121,7 +121,7 @@ fn takes(mask: u32, row: u8) -> usize
 // The bytes that the fields of a table take under a mask.
 fn span_by(mask: u32, rows: &[u8]) -> usize
     requires { Rows rows.now }
-    ensures { result ≡ total (widthsBy mask rows.now) }
+    ensures { result ≡ total (widths_by mask rows.now) }
 {
     let mut sum: usize = 0;
     let mut k: usize = 0;
@@ -164,7 +164,7 @@ fn wide(byte: u8) -> u32
 // The number of the `width` bytes at `at`.
 fn number_at(part: &[u8], at: usize, width: usize) -> u32
     requires { (at ≤ 96) × (width ≤ 4) }
-    ensures { result ≡ beAt part.now at width }
+    ensures { result ≡ be_at part.now at width }
 {
     let mut number: u32 = 0;
     let mut k: usize = 0;
@@ -178,7 +178,7 @@ fn number_at(part: &[u8], at: usize, width: usize) -> u32
 // The fields of a table that a mask has, from the front of a part on.
 fn raws_by(part: &[u8], mask: u32, rows: &[u8]) -> [u32; format::TABLE_ROWS]
     requires { Rows rows.now }
-    ensures { result ≡ padded (numbersAt (widthsBy mask rows.now) part.now 0) }
+    ensures { result ≡ padded (numbers_at (widths_by mask rows.now) part.now 0) }
 {
     let mut raw = [0u32; format::TABLE_ROWS];
     let mut at: usize = 0;
@@ -194,7 +194,7 @@ fn raws_by(part: &[u8], mask: u32, rows: &[u8]) -> [u32; format::TABLE_ROWS]
 
 // The same for a masked reply.
 fn raws(part: &[u8], sort: Sort, mask: u32) -> [u32; format::TABLE_ROWS]
-    ensures { result ≡ padded (numbersAt (widths mask (table_of sort)) part.now 0) }
+    ensures { result ≡ padded (numbers_at (widths mask (table_of sort)) part.now 0) }
 {
     match sort {
         Sort::Values => raws_by(part, mask, &VALUES_TABLE),
@@ -215,7 +215,7 @@ fn within(buf: &[u8], pos: usize) -> usize
 
 // The number of the four bytes at `pos`: a mask, for one.
 pub fn word_at(buf: &[u8], pos: usize) -> u32
-    ensures { result ≡ beAt buf.now pos 4 }
+    ensures { result ≡ be_at buf.now pos 4 }
 {
     let start = within(buf, pos);
     number_at(&buf[start..], 0, 4)
@@ -224,7 +224,7 @@ pub fn word_at(buf: &[u8], pos: usize) -> u32
 // The raw numbers of the fields of a masked reply that a mask has, in the table's order: 0 for a field
 // that the mask lacks, and zeros past the last row of a shorter table.
 pub fn unpack_fields(buf: &[u8], pos: usize, sort: Sort, mask: u32) -> [u32; format::TABLE_ROWS]
-    ensures { result ≡ padded (numbersAt (widths mask (table_of sort)) buf.now pos) }
+    ensures { result ≡ padded (numbers_at (widths mask (table_of sort)) buf.now pos) }
 {
     let start = within(buf, pos);
     raws(&buf[start..], sort, mask)
@@ -240,7 +240,7 @@ fn pack_by(
     raw: [u32; format::TABLE_ROWS],
 ) -> Packed
     requires { Rows rows.now }
-    ensures { PackIs (digits (widthsBy mask rows.now) raw) buf.old pos result buf.new }
+    ensures { PackIs (digits (widths_by mask rows.now) raw) buf.old pos result buf.new }
 {
     let size = span_by(mask, rows);
     let room = buf.len();

@@ -5,30 +5,30 @@ use mathlib.Core.List.{List}
 use Prim.Native.Nat.{ℕ, ◌<◌}
 use native.Mathlib.Nat.{mod-eq_of_lt}
 use native.Mathlib.Omega.{arith}
-use Rattle.packer.specs.Numbers.{beAt}
+use Rattle.packer.specs.Numbers.{be_at}
 use Rattle.packer.specs.Nearness.{Bytes}
 use Rattle.packer.proofs.Nearness.{number_small, scaled-near}
-use Rattle.tables.specs.Tables.{Coding, h, w, i, u, b, faultByte, F, width_of, field, entry}
+use Rattle.tables.specs.Tables.{Coding, h, w, i, u, b, fault_byte, F, width_of, field, entry}
 use Rattle.tables.specs.Sorts.{table_of}
 use Rattle.tables.specs.declared.Sort.{Sort}
 use Rattle.tables.proofs.Widths.{raw-present}
-use Rattle.telemetry.specs.Telemetry.{valueBy, float_in}
+use Rattle.telemetry.specs.Telemetry.{value_by, float_in}
 use Rattle.telemetry.specs.Records.{ByTable, RecordHolds}
 use Rattle.telemetry.specs.Nearness.{CodingNear, FieldsNear}
-use Rattle.telemetry.proofs.Scales.{codingFits, positive, small, coding-fits}
+use Rattle.telemetry.proofs.Scales.{coding_fits, positive, small, coding-fits}
 
 -- one field
 coding-near
-    : (kind : Coding) (s : List ℕ) (at raw : ℕ) → Bytes s → codingFits kind ≡ true → raw ≡ beAt s at (width_of kind)
-    → CodingNear kind s at (float_in (valueBy kind raw))
+    : (kind : Coding) (s : List ℕ) (at raw : ℕ) → Bytes s → coding_fits kind ≡ true → raw ≡ be_at s at (width_of kind)
+    → CodingNear kind s at (float_in (value_by kind raw))
 coding-near (h scale) s at raw bytes fits is =
-    let below : beAt s at 2 < 65536 = number_small s bytes at 2 in
+    let below : be_at s at 2 < 65536 = number_small s bytes at 2 in
     rw (is, mod-eq_of_lt below) (scaled-near 2 scale (omega arith) (positive scale fits) (small scale fits) s at)
 coding-near (w scale) s at raw bytes fits is = rw is (scaled-near 4 scale (omega arith) (positive scale fits) (small scale fits) s at)
 coding-near i s at raw bytes fits is = tt
 coding-near u s at raw bytes fits is = tt
 coding-near b s at raw bytes fits is = tt
-coding-near faultByte s at raw bytes fits is = tt
+coding-near fault_byte s at raw bytes fits is = tt
 coding-near F s at raw bytes fits is = tt
 
 -- those of a record

@@ -5,7 +5,7 @@ use mathlib.Core.List.{List, [], ◌∷◌}
 use Prim.Native.Nat.{ℕ, zero, suc, ◌^◌, ◌≤◌, ◌<◌}
 use lib.Dec.{ltb, leb}
 use borrow.Author.Tests.{ltb-true, leb-true}
-use Rattle.tables.specs.Tables.{Coding, h, w, i, u, b, faultByte, F, Field, entry}
+use Rattle.tables.specs.Tables.{Coding, h, w, i, u, b, fault_byte, F, Field, entry}
 use Rattle.tables.specs.Sorts.{table_of}
 use Rattle.tables.specs.declared.Sort.{Sort}
 use Rattle.tables.specs.declared.Sort.TheVariants.{Values, SetupValues, Stats}
@@ -13,14 +13,14 @@ use Rattle.tables.specs.declared.Sort.TheVariants.{Values, SetupValues, Stats}
 abbrev fits : ℕ → Bool
 fits scale = ltb 0 scale && leb scale (2 ^ 24)
 
-abbrev pub codingFits : Coding → Bool
-codingFits (h scale) = fits scale
-codingFits (w scale) = fits scale
-codingFits i = true
-codingFits u = true
-codingFits b = true
-codingFits faultByte = true
-codingFits F = true
+abbrev pub coding_fits : Coding → Bool
+coding_fits (h scale) = fits scale
+coding_fits (w scale) = fits scale
+coding_fits i = true
+coding_fits u = true
+coding_fits b = true
+coding_fits fault_byte = true
+coding_fits F = true
 
 module _ (scale : ℕ) (e : fits scale ≡ true) where
   pub positive : 0 < scale
@@ -32,17 +32,17 @@ module _ (scale : ℕ) (e : fits scale ≡ true) where
 -- ---- all of a table
 abbrev all_fit : List Field → Bool
 all_fit [] = true
-all_fit (f ∷ table) = codingFits f.coding && all_fit table
+all_fit (f ∷ table) = coding_fits f.coding && all_fit table
 
-fit_at : (table : List Field) (k : ℕ) → all_fit table ≡ true → codingFits (entry table k).coding ≡ true
+fit_at : (table : List Field) (k : ℕ) → all_fit table ≡ true → coding_fits (entry table k).coding ≡ true
 fit_at [] k e = refl
-fit_at (f ∷ table) zero e = ((and-eq-true_iff (codingFits f.coding) (all_fit table)).0 e).0
-fit_at (f ∷ table) (suc k) e = fit_at table k ((and-eq-true_iff (codingFits f.coding) (all_fit table)).0 e).1
+fit_at (f ∷ table) zero e = ((and-eq-true_iff (coding_fits f.coding) (all_fit table)).0 e).0
+fit_at (f ∷ table) (suc k) e = fit_at table k ((and-eq-true_iff (coding_fits f.coding) (all_fit table)).0 e).1
 
 all-fit : (sort : Sort) → all_fit (table_of sort) ≡ true
 all-fit Values = refl
 all-fit SetupValues = refl
 all-fit Stats = refl
 
-pub coding-fits : (sort : Sort) (k : ℕ) → codingFits (entry (table_of sort) k).coding ≡ true
+pub coding-fits : (sort : Sort) (k : ℕ) → coding_fits (entry (table_of sort) k).coding ≡ true
 coding-fits sort k = fit_at (table_of sort) k (all-fit sort)

@@ -2,13 +2,13 @@
 use Rattle.std.specs.Prelude.{false, ◌≡◌, List, [], ◌∷◌, ℕ, ◌<◌, pos, length, get_or}
 use Rattle.std.specs.Float.{nan}
 use Rattle.codes.specs.declared.FaultCode.TheVariants as FaultCode
-use Rattle.packer.specs.Numbers.{numbersAt}
-use Rattle.tables.specs.Tables.{entry, hasBit, widths}
+use Rattle.packer.specs.Numbers.{numbers_at}
+use Rattle.tables.specs.Tables.{entry, has_bit, widths}
 use Rattle.tables.specs.Sorts.{table_of}
 use Rattle.tables.specs.declared.Sort.{Sort}
 use Rattle.tables.specs.declared.Sort.TheVariants as Sort
 use Rattle.telemetry.specs.Telemetry as Telemetry
-use Rattle.telemetry.specs.Telemetry.{FieldValue, float, signed, unsigned, fault, field_at, valuesOf, setupValuesOf, statsOf, noValues, noSetupValues, noStats}
+use Rattle.telemetry.specs.Telemetry.{FieldValue, float, signed, unsigned, fault, field_at, values_of, setup_values_of, stats_of, no_values, no_setup_values, no_stats}
 use Rattle.telemetry.specs.declared.Values.{Values}
 use Rattle.telemetry.specs.declared.SetupValues.{SetupValues}
 use Rattle.telemetry.specs.declared.Stats.{Stats}
@@ -17,8 +17,8 @@ pub record ByTable : Type 0 where
   pub mask : ℕ
   pub fields : List FieldValue
 
-abbrev pub valuesByTable : Values → ByTable
-valuesByTable v =
+abbrev pub values_by_table : Values → ByTable
+values_by_table v =
     record {
       mask = v.mask;
       fields =
@@ -49,8 +49,8 @@ valuesByTable v =
           ∷ [];
     }
 
-abbrev pub setupByTable : SetupValues → ByTable
-setupByTable v =
+abbrev pub setup_by_table : SetupValues → ByTable
+setup_by_table v =
     record {
       mask = v.mask;
       fields =
@@ -79,8 +79,8 @@ setupByTable v =
           ∷ [];
     }
 
-abbrev pub statsByTable : Stats → ByTable
-statsByTable v =
+abbrev pub stats_by_table : Stats → ByTable
+stats_by_table v =
     record {
       mask = v.mask;
       fields =
@@ -99,20 +99,20 @@ statsByTable v =
     }
 
 -- the record of a sort, from a mask and raw numbers
-abbrev pub recordOf : Sort → ℕ → List ℕ → ByTable
-recordOf Sort.Values mask raws = valuesByTable (valuesOf mask raws)
-recordOf Sort.SetupValues mask raws = setupByTable (setupValuesOf mask raws)
-recordOf Sort.Stats mask raws = statsByTable (statsOf mask raws)
+abbrev pub record_of : Sort → ℕ → List ℕ → ByTable
+record_of Sort.Values mask raws = values_by_table (values_of mask raws)
+record_of Sort.SetupValues mask raws = setup_by_table (setup_values_of mask raws)
+record_of Sort.Stats mask raws = stats_by_table (stats_of mask raws)
 
 -- and with nothing in it
-abbrev pub noRecord : Sort → ByTable
-noRecord Sort.Values = valuesByTable noValues
-noRecord Sort.SetupValues = setupByTable noSetupValues
-noRecord Sort.Stats = statsByTable noStats
+abbrev pub empty_record : Sort → ByTable
+empty_record Sort.Values = values_by_table no_values
+empty_record Sort.SetupValues = setup_by_table no_setup_values
+empty_record Sort.Stats = stats_by_table no_stats
 
 -- the value of a row's field. Past the last row stands a NaN, which is no zero, and near nothing
-abbrev pub fieldIn : ByTable → ℕ → FieldValue
-fieldIn r k = get_or r.fields k (float nan)
+abbrev pub field_in : ByTable → ℕ → FieldValue
+field_in r k = get_or r.fields k (float nan)
 
 -- a value that is zero
 abbrev pub Zero : FieldValue → Type 0
@@ -125,12 +125,12 @@ Zero (fault code) = code ≡ FaultCode.None
 pub record RecordHolds (sort : Sort) (bits : ℕ) (s : List ℕ) (start : ℕ) (r : ByTable) : Type 0 where
   pub mask : r.mask ≡ bits
   -- every field is what its row in the table makes of the frame's bytes, as without the mask in the record
-  pub fields : (k : ℕ) → k < length (table_of sort) → fieldIn r k ≡ field_at (table_of sort) (numbersAt (widths bits (table_of sort)) s start) k
+  pub fields : (k : ℕ) → k < length (table_of sort) → field_in r k ≡ field_at (table_of sort) (numbers_at (widths bits (table_of sort)) s start) k
   -- document 01: "An absent field is zero, a fault code None."
-  pub absent : (k : ℕ) → k < length (table_of sort) → hasBit r.mask (entry (table_of sort) k).bit ≡ false → Zero (fieldIn r k)
+  pub absent : (k : ℕ) → k < length (table_of sort) → has_bit r.mask (entry (table_of sort) k).bit ≡ false → Zero (field_in r k)
 
 pub record TelemetryRecords : Type 0 where
   -- a record that was read
-  pub filled : (sort : Sort) (bits : ℕ) (s : List ℕ) (start : ℕ) → RecordHolds sort bits s start (recordOf sort bits (numbersAt (widths bits (table_of sort)) s start))
+  pub filled : (sort : Sort) (bits : ℕ) (s : List ℕ) (start : ℕ) → RecordHolds sort bits s start (record_of sort bits (numbers_at (widths bits (table_of sort)) s start))
   -- and one with nothing in it: its mask is 0, so every field is zero
-  pub empty : (sort : Sort) (s : List ℕ) (start : ℕ) → RecordHolds sort 0 s start (noRecord sort)
+  pub empty : (sort : Sort) (s : List ℕ) (start : ℕ) → RecordHolds sort 0 s start (empty_record sort)

@@ -3,10 +3,10 @@
 use Rattle.std.specs.Prelude.{ℕ, ◌%◌, List, [], ℤ, pos, Float, get_or}
 use Rattle.std.specs.Float.{binary32}
 use Rattle.std.specs.Float.Ieee.{of_int, of_bits}
-use Rattle.floats.specs.Numbers.{overScale}
+use Rattle.floats.specs.Numbers.{over_scale}
 use Rattle.packer.specs.Numbers.{signed_of}
-use Rattle.tables.specs.Tables.{Coding, h, w, i, u, b, faultByte, F, Field, valuesTable, setupTable, statsTable, entry}
-use Rattle.codes.specs.Codes.{faultOf}
+use Rattle.tables.specs.Tables.{Coding, h, w, i, u, b, fault_byte, F, Field, values_table, setup_table, stats_table, entry}
+use Rattle.codes.specs.Codes.{fault_of}
 use Rattle.codes.specs.declared.FaultCode.{FaultCode}
 use Rattle.codes.specs.declared.FaultCode.TheVariants as FaultCode
 use Rattle.telemetry.specs.declared.Values.{Values}
@@ -23,20 +23,20 @@ pub data FieldValue : Type 0 where
   unsigned : ℕ → FieldValue
   fault : FaultCode → FieldValue
 
--- the value that a raw number stands for: "hS is a signed 16-bit number over S, wS a signed 32-bit number over S, i and u signed and unsigned 32-bit, b a byte,
+-- the value that a raw number stands for: "h_s is a signed 16-bit number over S, w_s a signed 32-bit number over S, i and u signed and unsigned 32-bit, b a byte,
 -- F a binary32 by its bits"
-abbrev pub valueBy : Coding → ℕ → FieldValue
-valueBy (h scale) raw = float (overScale (signed_of 65536 (raw % 65536)) (of_int binary32 (pos scale)))
-valueBy (w scale) raw = float (overScale (signed_of 4294967296 raw) (of_int binary32 (pos scale)))
-valueBy i raw = signed (signed_of 4294967296 raw)
-valueBy u raw = unsigned raw
-valueBy b raw = unsigned (raw % 256)
-valueBy faultByte raw = fault (faultOf (raw % 256))
-valueBy F raw = float (of_bits binary32 raw)
+abbrev pub value_by : Coding → ℕ → FieldValue
+value_by (h scale) raw = float (over_scale (signed_of 65536 (raw % 65536)) (of_int binary32 (pos scale)))
+value_by (w scale) raw = float (over_scale (signed_of 4294967296 raw) (of_int binary32 (pos scale)))
+value_by i raw = signed (signed_of 4294967296 raw)
+value_by u raw = unsigned raw
+value_by b raw = unsigned (raw % 256)
+value_by fault_byte raw = fault (fault_of (raw % 256))
+value_by F raw = float (of_bits binary32 raw)
 
 -- the value of the field at a place, by its entry and its raw number
 abbrev pub field_at : List Field → List ℕ → ℕ → FieldValue
-field_at table raws k = valueBy (entry table k).coding (get_or raws k 0)
+field_at table raws k = value_by (entry table k).coding (get_or raws k 0)
 
 -- what is in a value; zero, or None, is a filler where it is one of the others
 abbrev pub float_in : FieldValue → Float
@@ -45,126 +45,126 @@ float_in (signed z) = zero
 float_in (unsigned n) = zero
 float_in (fault code) = zero
 
-abbrev pub signedIn : FieldValue → ℤ
-signedIn (float x) = pos 0
-signedIn (signed z) = z
-signedIn (unsigned n) = pos 0
-signedIn (fault code) = pos 0
+abbrev pub signed_in : FieldValue → ℤ
+signed_in (float x) = pos 0
+signed_in (signed z) = z
+signed_in (unsigned n) = pos 0
+signed_in (fault code) = pos 0
 
-abbrev pub unsignedIn : FieldValue → ℕ
-unsignedIn (float x) = 0
-unsignedIn (signed z) = 0
-unsignedIn (unsigned n) = n
-unsignedIn (fault code) = 0
+abbrev pub unsigned_in : FieldValue → ℕ
+unsigned_in (float x) = 0
+unsigned_in (signed z) = 0
+unsigned_in (unsigned n) = n
+unsigned_in (fault code) = 0
 
-abbrev pub faultIn : FieldValue → FaultCode
-faultIn (float x) = FaultCode.None
-faultIn (signed z) = FaultCode.None
-faultIn (unsigned n) = FaultCode.None
-faultIn (fault code) = code
+abbrev pub fault_in : FieldValue → FaultCode
+fault_in (float x) = FaultCode.None
+fault_in (signed z) = FaultCode.None
+fault_in (unsigned n) = FaultCode.None
+fault_in (fault code) = code
 
-abbrev pub floatField : List Field → List ℕ → ℕ → Float
-floatField table raws k = float_in (field_at table raws k)
+abbrev pub float_field : List Field → List ℕ → ℕ → Float
+float_field table raws k = float_in (field_at table raws k)
 
-abbrev pub signedField : List Field → List ℕ → ℕ → ℤ
-signedField table raws k = signedIn (field_at table raws k)
+abbrev pub signed_field : List Field → List ℕ → ℕ → ℤ
+signed_field table raws k = signed_in (field_at table raws k)
 
-abbrev pub unsignedField : List Field → List ℕ → ℕ → ℕ
-unsignedField table raws k = unsignedIn (field_at table raws k)
+abbrev pub unsigned_field : List Field → List ℕ → ℕ → ℕ
+unsigned_field table raws k = unsigned_in (field_at table raws k)
 
-abbrev pub faultField : List Field → List ℕ → ℕ → FaultCode
-faultField table raws k = faultIn (field_at table raws k)
+abbrev pub fault_field : List Field → List ℕ → ℕ → FaultCode
+fault_field table raws k = fault_in (field_at table raws k)
 
 -- GetValues and GetValuesSelective
-unfoldable pub valuesWith : ℕ → FaultCode → List ℕ → Values
-valuesWith mask code raws =
+unfoldable pub values_with : ℕ → FaultCode → List ℕ → Values
+values_with mask code raws =
     record {
       mask = mask;
-      temp_mosfet = floatField valuesTable raws 0;
-      temp_motor = floatField valuesTable raws 1;
-      avg_current_motor = floatField valuesTable raws 2;
-      avg_current_input = floatField valuesTable raws 3;
-      avg_current_d = floatField valuesTable raws 4;
-      avg_current_q = floatField valuesTable raws 5;
-      duty_cycle = floatField valuesTable raws 6;
-      rpm = floatField valuesTable raws 7;
-      voltage_in = floatField valuesTable raws 8;
-      amp_hours = floatField valuesTable raws 9;
-      amp_hours_charged = floatField valuesTable raws 10;
-      watt_hours = floatField valuesTable raws 11;
-      watt_hours_charged = floatField valuesTable raws 12;
-      tachometer = signedField valuesTable raws 13;
-      tachometer_abs = signedField valuesTable raws 14;
+      temp_mosfet = float_field values_table raws 0;
+      temp_motor = float_field values_table raws 1;
+      avg_current_motor = float_field values_table raws 2;
+      avg_current_input = float_field values_table raws 3;
+      avg_current_d = float_field values_table raws 4;
+      avg_current_q = float_field values_table raws 5;
+      duty_cycle = float_field values_table raws 6;
+      rpm = float_field values_table raws 7;
+      voltage_in = float_field values_table raws 8;
+      amp_hours = float_field values_table raws 9;
+      amp_hours_charged = float_field values_table raws 10;
+      watt_hours = float_field values_table raws 11;
+      watt_hours_charged = float_field values_table raws 12;
+      tachometer = signed_field values_table raws 13;
+      tachometer_abs = signed_field values_table raws 14;
       fault_code = code;
-      pid_pos = floatField valuesTable raws 16;
-      controller_id = unsignedField valuesTable raws 17;
-      temp_mosfet1 = floatField valuesTable raws 18;
-      temp_mosfet2 = floatField valuesTable raws 19;
-      temp_mosfet3 = floatField valuesTable raws 20;
-      avg_voltage_d = floatField valuesTable raws 21;
-      avg_voltage_q = floatField valuesTable raws 22;
-      status = unsignedField valuesTable raws 23;
+      pid_pos = float_field values_table raws 16;
+      controller_id = unsigned_field values_table raws 17;
+      temp_mosfet1 = float_field values_table raws 18;
+      temp_mosfet2 = float_field values_table raws 19;
+      temp_mosfet3 = float_field values_table raws 20;
+      avg_voltage_d = float_field values_table raws 21;
+      avg_voltage_q = float_field values_table raws 22;
+      status = unsigned_field values_table raws 23;
     }
 
-unfoldable pub valuesOf : ℕ → List ℕ → Values
-valuesOf mask raws = valuesWith mask (faultField valuesTable raws 15) raws
+unfoldable pub values_of : ℕ → List ℕ → Values
+values_of mask raws = values_with mask (fault_field values_table raws 15) raws
 
 -- GetValuesSetupSelective
-unfoldable pub setupValuesWith : ℕ → FaultCode → List ℕ → SetupValues
-setupValuesWith mask code raws =
+unfoldable pub setup_values_with : ℕ → FaultCode → List ℕ → SetupValues
+setup_values_with mask code raws =
     record {
       mask = mask;
-      temp_mosfet = floatField setupTable raws 0;
-      temp_motor = floatField setupTable raws 1;
-      avg_current_motor = floatField setupTable raws 2;
-      avg_current_input = floatField setupTable raws 3;
-      duty_cycle = floatField setupTable raws 4;
-      rpm = floatField setupTable raws 5;
-      speed = floatField setupTable raws 6;
-      voltage_in = floatField setupTable raws 7;
-      battery_level = floatField setupTable raws 8;
-      amp_hours = floatField setupTable raws 9;
-      amp_hours_charged = floatField setupTable raws 10;
-      watt_hours = floatField setupTable raws 11;
-      watt_hours_charged = floatField setupTable raws 12;
-      distance = floatField setupTable raws 13;
-      distance_abs = floatField setupTable raws 14;
-      pid_pos = floatField setupTable raws 15;
+      temp_mosfet = float_field setup_table raws 0;
+      temp_motor = float_field setup_table raws 1;
+      avg_current_motor = float_field setup_table raws 2;
+      avg_current_input = float_field setup_table raws 3;
+      duty_cycle = float_field setup_table raws 4;
+      rpm = float_field setup_table raws 5;
+      speed = float_field setup_table raws 6;
+      voltage_in = float_field setup_table raws 7;
+      battery_level = float_field setup_table raws 8;
+      amp_hours = float_field setup_table raws 9;
+      amp_hours_charged = float_field setup_table raws 10;
+      watt_hours = float_field setup_table raws 11;
+      watt_hours_charged = float_field setup_table raws 12;
+      distance = float_field setup_table raws 13;
+      distance_abs = float_field setup_table raws 14;
+      pid_pos = float_field setup_table raws 15;
       fault_code = code;
-      controller_id = unsignedField setupTable raws 17;
-      num_vescs = unsignedField setupTable raws 18;
-      watt_hours_battery_left = floatField setupTable raws 19;
-      odometer = unsignedField setupTable raws 20;
-      uptime_ms = unsignedField setupTable raws 21;
+      controller_id = unsigned_field setup_table raws 17;
+      num_vescs = unsigned_field setup_table raws 18;
+      watt_hours_battery_left = float_field setup_table raws 19;
+      odometer = unsigned_field setup_table raws 20;
+      uptime_ms = unsigned_field setup_table raws 21;
     }
 
-unfoldable pub setupValuesOf : ℕ → List ℕ → SetupValues
-setupValuesOf mask raws = setupValuesWith mask (faultField setupTable raws 16) raws
+unfoldable pub setup_values_of : ℕ → List ℕ → SetupValues
+setup_values_of mask raws = setup_values_with mask (fault_field setup_table raws 16) raws
 
 -- GetStats
-unfoldable pub statsOf : ℕ → List ℕ → Stats
-statsOf mask raws =
+unfoldable pub stats_of : ℕ → List ℕ → Stats
+stats_of mask raws =
     record {
       mask = mask;
-      speed_avg = floatField statsTable raws 0;
-      speed_max = floatField statsTable raws 1;
-      power_avg = floatField statsTable raws 2;
-      power_max = floatField statsTable raws 3;
-      current_avg = floatField statsTable raws 4;
-      current_max = floatField statsTable raws 5;
-      temp_mosfet_avg = floatField statsTable raws 6;
-      temp_mosfet_max = floatField statsTable raws 7;
-      temp_motor_avg = floatField statsTable raws 8;
-      temp_motor_max = floatField statsTable raws 9;
-      count_time = floatField statsTable raws 10;
+      speed_avg = float_field stats_table raws 0;
+      speed_max = float_field stats_table raws 1;
+      power_avg = float_field stats_table raws 2;
+      power_max = float_field stats_table raws 3;
+      current_avg = float_field stats_table raws 4;
+      current_max = float_field stats_table raws 5;
+      temp_mosfet_avg = float_field stats_table raws 6;
+      temp_mosfet_max = float_field stats_table raws 7;
+      temp_motor_avg = float_field stats_table raws 8;
+      temp_motor_max = float_field stats_table raws 9;
+      count_time = float_field stats_table raws 10;
     }
 
 -- records with nothing in them: no bit of a mask and no raw number, so each field is a zero (`Records`), with no fault
-abbrev pub noValues : Values
-noValues = valuesWith 0 FaultCode.None []
+abbrev pub no_values : Values
+no_values = values_with 0 FaultCode.None []
 
-abbrev pub noSetupValues : SetupValues
-noSetupValues = setupValuesWith 0 FaultCode.None []
+abbrev pub no_setup_values : SetupValues
+no_setup_values = setup_values_with 0 FaultCode.None []
 
-abbrev pub noStats : Stats
-noStats = statsOf 0 []
+abbrev pub no_stats : Stats
+no_stats = stats_of 0 []

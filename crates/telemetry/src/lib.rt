@@ -3,10 +3,10 @@
 // not sent, and 0 is a zero of every kind, so that no field is tested again. A record keeps the mask, which the
 // Rust's does not: it tells a zero that was sent from a field that was not.
 ghost use Rattle.std.specs.Prelude.{true, [], ◌↔◌, ◌≡◌, ◌%◌};
-ghost use Rattle.floats.specs.Numbers.{overScale};
+ghost use Rattle.floats.specs.Numbers.{over_scale};
 ghost use Rattle.packer.specs.Numbers.{signed_of};
 ghost use Rattle.tables.specs.Bits.{HasBits};
-ghost use Rattle.telemetry.specs.Telemetry.{noValues, noSetupValues, noStats, valuesWith, valuesOf, setupValuesWith, setupValuesOf, statsOf};
+ghost use Rattle.telemetry.specs.Telemetry.{no_values, no_setup_values, no_stats, values_with, values_of, setup_values_with, setup_values_of, stats_of};
 
 use codes::FaultCode;
 
@@ -113,16 +113,16 @@ impl Stats {
     }
 }
 
-// hS: a signed 16-bit number over a scale.
+// h_s: a signed 16-bit number over a scale.
 fn half_over(raw: u32, scale: f32) -> f32
-    ensures { result ≡ overScale (signed_of 65536 (raw % 65536)) scale }
+    ensures { result ≡ over_scale (signed_of 65536 (raw % 65536)) scale }
 {
     floats::scaled(packer::as_i16(raw), scale)
 }
 
-// wS: a signed 32-bit number over a scale.
+// w_s: a signed 32-bit number over a scale.
 fn word_over(raw: u32, scale: f32) -> f32
-    ensures { result ≡ overScale (signed_of 4294967296 raw) scale }
+    ensures { result ≡ over_scale (signed_of 4294967296 raw) scale }
 {
     floats::scaled(packer::as_i32(raw), scale)
 }
@@ -136,7 +136,7 @@ fn one_byte(raw: u32) -> u8
 
 // Zeros but for the mask and the fault code: an enum field is not stored to, so a record is begun with it.
 fn values_begun(mask: u32, fault: FaultCode) -> Values
-    ensures { result ≡ valuesWith mask fault [] }
+    ensures { result ≡ values_with mask fault [] }
 {
     Values {
         mask,
@@ -168,14 +168,14 @@ fn values_begun(mask: u32, fault: FaultCode) -> Values
 }
 
 pub fn no_values() -> Values
-    ensures { result ≡ noValues }
+    ensures { result ≡ no_values }
 {
     values_begun(0, FaultCode::None)
 }
 
 // The record of a mask, and of the raw numbers that the walk over it read, a row of the table each.
 pub fn values_of(mask: u32, raw: [u32; format::TABLE_ROWS]) -> Values
-    ensures { result ≡ valuesOf mask raw }
+    ensures { result ≡ values_of mask raw }
 {
     let mut values = values_begun(mask, codes::fault_code(one_byte(raw[15])));
     values.temp_mosfet = half_over(raw[0], 10.0);
@@ -206,7 +206,7 @@ pub fn values_of(mask: u32, raw: [u32; format::TABLE_ROWS]) -> Values
 
 // Zeros but for the mask and the fault code, of GetValuesSetupSelective.
 fn setup_values_begun(mask: u32, fault: FaultCode) -> SetupValues
-    ensures { result ≡ setupValuesWith mask fault [] }
+    ensures { result ≡ setup_values_with mask fault [] }
 {
     SetupValues {
         mask,
@@ -236,14 +236,14 @@ fn setup_values_begun(mask: u32, fault: FaultCode) -> SetupValues
 }
 
 pub fn no_setup_values() -> SetupValues
-    ensures { result ≡ noSetupValues }
+    ensures { result ≡ no_setup_values }
 {
     setup_values_begun(0, FaultCode::None)
 }
 
 // The record of GetValuesSetupSelective.
 pub fn setup_values_of(mask: u32, raw: [u32; format::TABLE_ROWS]) -> SetupValues
-    ensures { result ≡ setupValuesOf mask raw }
+    ensures { result ≡ setup_values_of mask raw }
 {
     let mut values = setup_values_begun(mask, codes::fault_code(one_byte(raw[16])));
     values.temp_mosfet = half_over(raw[0], 10.0);
@@ -272,7 +272,7 @@ pub fn setup_values_of(mask: u32, raw: [u32; format::TABLE_ROWS]) -> SetupValues
 
 // Zeros but for the mask.
 fn stats_begun(mask: u32) -> Stats
-    ensures { result ≡ statsOf mask [] }
+    ensures { result ≡ stats_of mask [] }
 {
     Stats {
         mask,
@@ -291,14 +291,14 @@ fn stats_begun(mask: u32) -> Stats
 }
 
 pub fn no_stats() -> Stats
-    ensures { result ≡ noStats }
+    ensures { result ≡ no_stats }
 {
     stats_begun(0)
 }
 
 // The record of GetStats. A float (F) is sent by its bits.
 pub fn stats_of(mask: u32, raw: [u32; format::TABLE_ROWS]) -> Stats
-    ensures { result ≡ statsOf mask raw }
+    ensures { result ≡ stats_of mask raw }
 {
     let mut stats = stats_begun(mask);
     stats.speed_avg = floats::f32_from_bits(raw[0]);

@@ -5,7 +5,7 @@ use mathlib.Core.Bool.{and-true, and_assoc, and-eq-true_iff, false≢true}
 use native.Mathlib.Omega.{arith}
 use lib.ListN.{drop_of_length-le}
 use lib.Seq.{drop-cons, drop-drop}
-use Rattle.text.specs.Utf8.{Range, Row, within, stands, frontLength}
+use Rattle.text.specs.Utf8.{Range, Row, within, stands, front_length}
 
 pub range_inside : (r : Range) (bytes : List ℕ) (at : ℕ) → at < length bytes → stands (r ∷ []) (drop at bytes) ≡ within r (get_or bytes at 0)
 unfolding stands
@@ -29,12 +29,12 @@ pub row-joined : (p q : Row) (bytes : List ℕ) (at : ℕ) {first both : Bool} �
 row-joined p q bytes at said e = e ∙ rw (stands-joined p q (drop at bytes), drop-drop (length p) at bytes, said)
 
 module _ (row : Row) (rows : List Row) (bytes : List ℕ) {first : Bool} (said : first ≡ stands row bytes) where
-  pub row-found : first ≡ true → frontLength (row ∷ rows) bytes ≡ length row
-  unfolding frontLength
+  pub row-found : first ≡ true → front_length (row ∷ rows) bytes ≡ length row
+  unfolding front_length
   row-found held = rw (sym said ∙ held)
 
-  pub row-passed : first ≡ false → frontLength (row ∷ rows) bytes ≡ frontLength rows bytes
-  unfolding frontLength
+  pub row-passed : first ≡ false → front_length (row ∷ rows) bytes ≡ front_length rows bytes
+  unfolding front_length
   row-passed failed = rw (sym said ∙ failed)
 
 -- a row that stands is no longer than the bytes
@@ -51,7 +51,7 @@ cond-within true m n k here on = here refl
 cond-within false m n k here on = on
 
 -- nor is the sequence at the front
-pub front-within : (rows : List Row) (bytes : List ℕ) → frontLength rows bytes ≤ length bytes
-unfolding frontLength
+pub front-within : (rows : List Row) (bytes : List ℕ) → front_length rows bytes ≤ length bytes
+unfolding front_length
 front-within [] bytes = omega arith
-front-within (row ∷ rows) bytes = cond-within (stands row bytes) (length row) (frontLength rows bytes) (length bytes) (stands-within row bytes) (front-within rows bytes)
+front-within (row ∷ rows) bytes = cond-within (stands row bytes) (length row) (front_length rows bytes) (length bytes) (stands-within row bytes) (front-within rows bytes)

@@ -1,4 +1,4 @@
--- `wellFormed` decides the rule `WellFormed`: rows of different lengths never stand at the front of the same bytes.
+-- `well_formed` decides the rule `WellFormed`: rows of different lengths never stand at the front of the same bytes.
 use Rattle.core.specs.Prelude.{◌≡◌, ℕ, zero, suc, ◌≤◌, Bool, true, false, cond, ◌&&◌, ◌||◌, eqb, ltb, leb, ◌⊎◌, ◌↔◌, List, [], ◌∷◌, length, drop}
 use mathlib.Core.Path.{refl, sym, ap, ◌∙◌}
 use mathlib.Core.Bool.{and-eq-true_iff, false≢true}
@@ -8,7 +8,7 @@ use mathlib.Core.Logic.{⊎_elim, inl, inr}
 use native.Mathlib.Omega.{arith}
 use lib.Seq.{drop-nil}
 use borrow.Author.Tests.{eqb-true, ltb-true, leb-true}
-use Rattle.text.specs.Utf8.{range, Row, table, within, stands, frontLength, afterFirst, wellFormedAfter, wellFormed, WellFormed, empty, sequence}
+use Rattle.text.specs.Utf8.{range, Row, table, within, stands, front_length, after_first_byte, well_formed_after, well_formed, WellFormed, empty, sequence}
 use Rattle.text.proofs.Passing.{past-sequence}
 
 -- a row of a list that stands at the front, and its length
@@ -19,37 +19,37 @@ record Standing (rows : List Row) (bytes : List ℕ) (size : ℕ) : Type 0 where
   size_of : length row ≡ size
 
 Standing-by
-    : (row : Row) (rows : List Row) (bytes : List ℕ) (size : ℕ) (b : Bool) → stands row bytes ≡ b → (frontLength rows bytes ≡ size → Standing rows bytes size)
-    → cond b (length row) (frontLength rows bytes) ≡ size → Standing (row ∷ rows) bytes size
+    : (row : Row) (rows : List Row) (bytes : List ℕ) (size : ℕ) (b : Bool) → stands row bytes ≡ b → (front_length rows bytes ≡ size → Standing rows bytes size)
+    → cond b (length row) (front_length rows bytes) ≡ size → Standing (row ∷ rows) bytes size
 Standing-by row rows bytes size true s on e = record { row = row; member = Memᴰ.head refl; front = s; size_of = e }
 Standing-by row rows bytes size false s on e =
     let rest = on e in
     record { row = rest.row; member = Memᴰ.tail rest.member; front = rest.front; size_of = rest.size_of }
 
 -- so where the sequence at the front has a length, such a row stands
-standing : (rows : List Row) (bytes : List ℕ) (size : ℕ) → frontLength rows bytes ≡ size → (size ≡ 0 → ⊥) → Standing rows bytes size
-unfolding frontLength
+standing : (rows : List Row) (bytes : List ℕ) (size : ℕ) → front_length rows bytes ≡ size → (size ≡ 0 → ⊥) → Standing rows bytes size
+unfolding front_length
 standing [] bytes size e some = absurd (some (sym e))
 standing (row ∷ rows) bytes size e some = Standing-by row rows bytes size (stands row bytes) refl (λ f. standing rows bytes size f some) e
 
--- what `wellFormed` says yes to is well-formed by the rule
+-- what `well_formed` says yes to is well-formed by the rule
 after_first
-    : (byte : ℕ) (bytes : List ℕ) (size : ℕ) → frontLength table (byte ∷ bytes) ≡ size
-    → ((more : ℕ) → wellFormedAfter more bytes ≡ true → WellFormed (drop more bytes)) → afterFirst size (λ more. wellFormedAfter more bytes) ≡ true
+    : (byte : ℕ) (bytes : List ℕ) (size : ℕ) → front_length table (byte ∷ bytes) ≡ size
+    → ((more : ℕ) → well_formed_after more bytes ≡ true → WellFormed (drop more bytes)) → after_first_byte size (λ more. well_formed_after more bytes) ≡ true
     → WellFormed (byte ∷ bytes)
 after_first byte bytes zero e rest h = absurd (false≢true h)
 after_first byte bytes (suc more) e rest h =
     let found = standing table (byte ∷ bytes) (suc more) e (λ z. omega arith) in
     sequence found.member found.front (rw found.size_of (rest more h))
 
-passed-holds : (more : ℕ) (bytes : List ℕ) → wellFormedAfter more bytes ≡ true → WellFormed (drop more bytes)
-unfolding wellFormedAfter
+passed-holds : (more : ℕ) (bytes : List ℕ) → well_formed_after more bytes ≡ true → WellFormed (drop more bytes)
+unfolding well_formed_after
 passed-holds more [] e = rw (drop-nil more) empty
 passed-holds (suc more) (byte ∷ bytes) e = passed-holds more bytes e
 passed-holds zero (byte ∷ bytes) e = after_first byte bytes _ refl (λ more h. passed-holds more bytes h) e
 
-well-formed-holds : (bytes : List ℕ) → wellFormed bytes ≡ true → WellFormed bytes
-unfolding wellFormed
+well-formed-holds : (bytes : List ℕ) → well_formed bytes ≡ true → WellFormed bytes
+unfolding well_formed
 well-formed-holds bytes e = passed-holds 0 bytes e
 
 -- two rows agree: they are of one length, or no byte lies in the first range of both
@@ -102,12 +102,12 @@ front_by q row bytes on false t agreed s (inr e) = e
 -- a row that stands, and that each row agrees with, says how long the sequence at the front is
 Front-length
     : (rows : List Row) (row : Row) (bytes : List ℕ) → every (agree row) rows ≡ true → Memᴰ row rows → stands row bytes ≡ true
-    → frontLength rows bytes ≡ length row
-unfolding frontLength
+    → front_length rows bytes ≡ length row
+unfolding front_length
 Front-length [] row bytes agreed m s = absurd (Memᴰ.not-nil m)
 Front-length (q ∷ rows) row bytes agreed m s =
     let both = (and-eq-true_iff (agree row q) (every (agree row) rows)).0 agreed in
-    front_by q row bytes (frontLength rows bytes) (stands q bytes) refl both.0 s
+    front_by q row bytes (front_length rows bytes) (stands q bytes) refl both.0 s
     (⊎_elim (λ same. inl same) (λ n. inr (Front-length rows row bytes both.1 n s)) (Memᴰ.cases_cons m))
 
 -- each row of the table agrees with each, itself too: computed
@@ -119,14 +119,14 @@ row-some : (row : Row) → every (agree row) table ≡ true → length row ≡ 0
 row-some [] agreed e = false≢true agreed
 row-some (r ∷ row) agreed e = omega arith
 
--- what is well-formed by the rule `wellFormed` says yes to
-holds-well-formed : {bytes : List ℕ} → WellFormed bytes → wellFormed bytes ≡ true
-unfolding wellFormed wellFormedAfter
+-- what is well-formed by the rule `well_formed` says yes to
+holds-well-formed : {bytes : List ℕ} → WellFormed bytes → well_formed bytes ≡ true
+unfolding well_formed well_formed_after
 holds-well-formed empty = refl
 holds-well-formed (sequence {row} {bytes} member front rest) =
     let agreed = every-at (λ (p : Row). every (agree p) table) table table-agrees member in
     past-sequence (length row) bytes (Front-length table row bytes agreed member front) (row-some row agreed) ∙ holds-well-formed rest
 
--- `wellFormed` says yes to just what is well-formed by the rule
-pub well-formed-iff : (bytes : List ℕ) → (wellFormed bytes ≡ true) ↔ WellFormed bytes
+-- `well_formed` says yes to just what is well-formed by the rule
+pub well-formed-iff : (bytes : List ℕ) → (well_formed bytes ≡ true) ↔ WellFormed bytes
 well-formed-iff bytes = (well-formed-holds bytes, holds-well-formed)

@@ -1,34 +1,34 @@
 -- Document 01, "Reply fields": the text of a name.
 use Rattle.core.specs.Prelude.{◌≡◌, ℕ, ◌-◌, ◌<◌, ◌≤◌, Bool, true, false, cond, ◌↔◌, List, [], length, get_or, take, ◌≢◌, slice_index_or}
 use Rattle.refusals.specs.Refusals.{Answer, ok, refused}
-use Rattle.names.specs.Names.{nulWithin}
-use Rattle.text.specs.Utf8.{wellFormed, WellFormed}
+use Rattle.names.specs.Names.{nul_within}
+use Rattle.text.specs.Utf8.{well_formed, WellFormed}
 
 -- the first NUL of a name's bytes, by the place after it
-unfoldable pub firstNul : List ℕ → Answer ℕ
-firstNul name = nulWithin (length name) name 0
+unfoldable pub first_nul : List ℕ → Answer ℕ
+first_nul name = nul_within (length name) name 0
 
 -- "the part of the lent name bytes before the first NUL"
-unfoldable pub partBefore : Answer ℕ → List ℕ → List ℕ
-partBefore (ok next) name = take (next - 1) name
-partBefore (refused why) name = []
+unfoldable pub part_before : Answer ℕ → List ℕ → List ℕ
+part_before (ok next) name = take (next - 1) name
+part_before (refused why) name = []
 
 -- whether that part is a text: not "when there is no NUL or the part is not well-formed UTF-8"
-unfoldable pub hasTextBefore : Answer ℕ → List ℕ → Bool
-hasTextBefore (ok next) name = wellFormed (partBefore (ok next) name)
-hasTextBefore (refused why) name = false
+unfoldable pub has_text_before : Answer ℕ → List ℕ → Bool
+has_text_before (ok next) name = well_formed (part_before (ok next) name)
+has_text_before (refused why) name = false
 
 -- whether a name has a text, an empty one too
-unfoldable pub hasText : List ℕ → Bool
-hasText name = hasTextBefore (firstNul name) name
+unfoldable pub has_text : List ℕ → Bool
+has_text name = has_text_before (first_nul name) name
 
 -- the text of a name; where it has none, "the part is then the empty one"
 unfoldable pub text_of : List ℕ → List ℕ
-text_of name = cond (hasText name) (partBefore (firstNul name) name) []
+text_of name = cond (has_text name) (part_before (first_nul name) name) []
 
 -- a yes or no, and a number of bytes at the front of a name, that say its text
 pub record FoundText (name : List ℕ) (has : Bool) (size : ℕ) : Type 0 where
-  pub said : has ≡ hasText name
+  pub said : has ≡ has_text name
   pub inside : size ≤ length name
   pub part : take size name ≡ text_of name
 

@@ -35,24 +35,24 @@ stands (r ∷ row) [] = false
 stands (r ∷ row) (byte ∷ bytes) = within r byte && stands row bytes
 
 -- how long the sequence at the front of the bytes is: that of the first row that stands there; 0 where none does
-unfoldable pub frontLength : List Row → List ℕ → ℕ
-frontLength [] bytes = 0
-frontLength (row ∷ rows) bytes = cond (stands row bytes) (length row) (frontLength rows bytes)
+unfoldable pub front_length : List Row → List ℕ → ℕ
+front_length [] bytes = 0
+front_length (row ∷ rows) bytes = cond (stands row bytes) (length row) (front_length rows bytes)
 
 -- what the rest says, after the first byte of a sequence; false where there is no sequence
-abbrev pub afterFirst : ℕ → (ℕ → Bool) → Bool
-afterFirst zero rest = false
-afterFirst (suc more) rest = rest more
+abbrev pub after_first_byte : ℕ → (ℕ → Bool) → Bool
+after_first_byte zero rest = false
+after_first_byte (suc more) rest = rest more
 
 -- well-formed once the next `more` bytes, of a sequence that has begun, are passed
-unfoldable pub wellFormedAfter : ℕ → List ℕ → Bool
-wellFormedAfter more [] = true
-wellFormedAfter (suc more) (byte ∷ bytes) = wellFormedAfter more bytes
-wellFormedAfter zero (byte ∷ bytes) = afterFirst (frontLength table (byte ∷ bytes)) (λ more. wellFormedAfter more bytes)
+unfoldable pub well_formed_after : ℕ → List ℕ → Bool
+well_formed_after more [] = true
+well_formed_after (suc more) (byte ∷ bytes) = well_formed_after more bytes
+well_formed_after zero (byte ∷ bytes) = after_first_byte (front_length table (byte ∷ bytes)) (λ more. well_formed_after more bytes)
 
 -- well-formed: empty, or a row's sequence and then what is well-formed
-unfoldable pub wellFormed : List ℕ → Bool
-wellFormed bytes = wellFormedAfter 0 bytes
+unfoldable pub well_formed : List ℕ → Bool
+well_formed bytes = well_formed_after 0 bytes
 
 -- the same as a rule, with no order among the rows
 pub data WellFormed : List ℕ → Type 0 where

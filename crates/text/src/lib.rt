@@ -2,8 +2,8 @@
 // of UTF-8 of core::str, and CStr::from_bytes_until_nul. Document 01, "Reply fields", says what
 // text a name has, and the Unicode Standard's table 3-7 what is well-formed.
 ghost use Rattle.core.specs.Prelude.{◌≡◌, ◌<◌, ◌&&◌, [], ◌∷◌, length, drop};
-ghost use Rattle.text.specs.Utf8.{range, table, within, stands, frontLength, wellFormed};
-ghost use Rattle.text.specs.Text.{hasText, text_of, FoundText};
+ghost use Rattle.text.specs.Utf8.{range, table, within, stands, front_length, well_formed};
+ghost use Rattle.text.specs.Text.{has_text, text_of, FoundText};
 
 use refusals::Consumed;
 
@@ -66,7 +66,7 @@ fn has_four(bytes: &[u8], at: usize, a_first: u8, a_last: u8, b_first: u8, b_las
 // How long the table's sequence at `at` is, 0 where none stands there: a test a row, in its order.
 fn sequence_length(bytes: &[u8], at: usize) -> usize
     requires { at < length bytes.now }
-    ensures { result ≡ frontLength table (drop at bytes.now) }
+    ensures { result ≡ front_length table (drop at bytes.now) }
 {
     if has_one(bytes, at, 0x00, 0x7F) {
         return 1;
@@ -100,7 +100,7 @@ fn sequence_length(bytes: &[u8], at: usize) -> usize
 
 // Whether the bytes are well-formed UTF-8.
 pub fn well_formed(bytes: &[u8]) -> bool
-    ensures { result ≡ wellFormed bytes.now }
+    ensures { result ≡ well_formed bytes.now }
 {
     let mut at = 0;
     while at < bytes.len() {
@@ -140,7 +140,7 @@ fn find_text(name: &[u8]) -> TextPart
 
 // Whether a name has a text: it tells an empty text from none.
 pub fn has_text(name: &[u8]) -> bool
-    ensures { result ≡ hasText name.now }
+    ensures { result ≡ has_text name.now }
 {
     let found = find_text(name);
     found.has

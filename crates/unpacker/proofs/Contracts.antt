@@ -31,7 +31,7 @@ use denote.Triple.Clauses.{Ended, Clauses, closing, ensured, lasts}
 use denote.Triple.Walked.{says, Stays, fits_of, has_of, stay_ref, walk_of, ends_at}
 use Rattle.unpacker.specs.Unpacker.{Read, ReadIs, moved}
 use Rattle.unpacker.specs.declared.Unpacker.{Unpacker}
-use Rattle.unpacker.proofs.Steps.{StepType, stepRow, answerRow, value, answer-made}
+use Rattle.unpacker.proofs.Steps.{StepType, step_row, answer_row, value, answer-made}
 use Rattle.unpacker.proofs.Thin.{B, Own, behind, apart}
 
 module _ (Z : StepType) {X : Type 0} (answers : Z.Answer.Value → X) where
@@ -42,7 +42,7 @@ module _ (Z : StepType) {X : Type 0} (answers : Z.Answer.Value → X) where
   module _ (ss : List (Slot 1)) (ks : Kepts ss) (read : (κs : Lfts 1) → Denots (types_at ss κs) → List ℕ → ℕ → Read X) where
     abbrev pub stepped : Ended
     stepped = record {
-      signature = record { lifetimes = 1; outlives = []; params = SliceRefOf (0 ∷ []) tt (plain (λ κs. u8)) (λ κs. tt) ∷ plain (λ κs. usize) ∷ ss; result = plain (λ κs. stepRow Z) };
+      signature = record { lifetimes = 1; outlives = []; params = SliceRefOf (0 ∷ []) tt (plain (λ κs. u8)) (λ κs. tt) ∷ plain (λ κs. usize) ∷ ss; result = plain (λ κs. step_row Z) };
       kept = (yes, (yes, ks));
     }
 
@@ -77,7 +77,7 @@ module _ (Z : StepType) {X : Type 0} (answers : Z.Answer.Value → X) where
   module _ (ss : List (Slot 2)) (ks : Kepts ss) (hs : Stays ss ks) (read : (κs : Lfts 2) → Denots (types_at ss κs) → List ℕ → ℕ → Read X) where
     abbrev pub method : Ended
     method = record {
-      signature = record { lifetimes = 2; outlives = record { long = 1; long_ok = tt; short = 0; short_ok = tt } ∷ []; params = RefMutOf (0 ∷ []) tt behind (λ κs. tt) ∷ ss; result = plain (λ κs. answerRow Z) };
+      signature = record { lifetimes = 2; outlives = record { long = 1; long_ok = tt; short = 0; short_ok = tt } ∷ []; params = RefMutOf (0 ∷ []) tt behind (λ κs. tt) ∷ ss; result = plain (λ κs. answer_row Z) };
       kept = (yes, ks);
     }
 
@@ -106,7 +106,7 @@ module _ (Z : StepType) {X : Type 0} (answers : Z.Answer.Value → X) where
 
         -- the ends of ss are ws, and what is had of them there is had for nothing
         pub exits : (ws : Fins (κ, (κ', tt)) ss ks es) → fits_of (κ, (κ', tt)) ss ks hs es ws → ent 𝓤 (emp 𝓤) (sem 𝓛 (has_of (κ, (κ', tt)) ss ks hs es ws vss))
-            → (d : Z.D) → Is (answerRow Z) (Z.answer d) (value Z d ∷ []) → read_by d ≡ read (κ, (κ', tt)) es h.buf.now h.pos
+            → (d : Z.D) → Is (answer_row Z) (Z.answer d) (value Z d ∷ []) → read_by d ≡ read (κ, (κ', tt)) es h.buf.now h.pos
             → ent 𝓤 (⋆ 𝓛 (‵ (fobs γ ((B κ').coded.code (moved h (Z.pos d)))) ∷ ‵ (fbor κ (Body (mem (B κ')) b o γ)) ∷ ‵ (flft κ q) ∷ (‵ (flft κ' q') ⊛ ‵ ftrue) ∷ [])) (Post (value Z d))
         exits ws fit made d is e =
             qed 𝓛 (‵ (fobs γ ((B κ').coded.code (moved h (Z.pos d)))) ∷ ‵ (fbor κ (Body (mem (B κ')) b o γ)) ∷ ‵ (flft κ q) ∷ (‵ (flft κ' q') ⊛ ‵ ftrue) ∷ []) ∵
@@ -114,4 +114,4 @@ module _ (Z : StepType) {X : Type 0} (answers : Z.Answer.Value → X) where
             says ! (record { answers = ap (λ (r : Read X). r.answer) e; leaves = ap (λ (r : Read X). moved h r.place) e }) $
             move ! (2 ∷ 3 ∷ []) $ join ! $ frame ! $ feq_i ! (List Val) (vptr b o ∷ []) (vptr b o ∷ []) refl $ fjoin3 ! $
             use0 𝓛 (‵ (has_of (κ, (κ', tt)) ss ks hs es ws vss)) made $ move ! (1 ∷ 0 ∷ []) $ fjoin ! $ frame ! $
-            owned ! (answerRow Z) (Is (answerRow Z)) (answer-made Z 𝓛) (Z.answer d) (value Z d ∷ []) is $ done !
+            owned ! (answer_row Z) (Is (answer_row Z)) (answer-made Z 𝓛) (Z.answer d) (value Z d ∷ []) is $ done !

@@ -14,13 +14,13 @@ use Rattle.packer.proofs.UnpackedF32.TheLaws as UnpackedF32'
 use Rattle.names.specs.contracts.Name39 as Name39
 use Rattle.names.proofs.Name39.TheLaws as Name39'
 use Rattle.unpacker.specs.declared.StepU8.{StepU8}
-use Rattle.unpacker.specs.contracts.StepU8 as stepU8
+use Rattle.unpacker.specs.contracts.StepU8 as step_u8
 use Rattle.unpacker.specs.declared.StepU32.{StepU32}
-use Rattle.unpacker.specs.contracts.StepU32 as stepU32
+use Rattle.unpacker.specs.contracts.StepU32 as step_u32
 use Rattle.unpacker.specs.declared.StepF32.{StepF32}
-use Rattle.unpacker.specs.contracts.StepF32 as stepF32
+use Rattle.unpacker.specs.contracts.StepF32 as step_f32
 use Rattle.unpacker.specs.declared.StepName39.{StepName39}
-use Rattle.unpacker.specs.contracts.StepName39 as stepName39
+use Rattle.unpacker.specs.contracts.StepName39 as step_name39
 use Rattle.unpacker.proofs.Steps.{StepType}
 
 -- by place: the answer's type as a field, its laws and its one MIR type; the struct, its two fields, that they are all, and the literal that has a given two
@@ -29,18 +29,18 @@ abbrev sort : (A : Field) (l : FLaws A) (p : Plain A) (τ : Ty) → A.row.mir �
     → (make : A.Value → ℕ → D) → ((a : A.Value) (n : ℕ) → a ≡ answer (make a n)) → ((a : A.Value) (n : ℕ) → n ≡ pos (make a n)) → StepType
 sort A l p τ is name D answer pos one make a n = record { name = name; Answer = A; laws = l; plain = p; mir = τ; mir_is = is; D = D; answer = answer; pos = pos; to_one = one; make = make; made-answer = a; made-pos = n }
 
-abbrev pub ofU8 : StepType
-ofU8 = sort UnpackedU8.the_field UnpackedU8'.the_field_laws UnpackedU8'.the_field_plain UnpackedU8'.mir refl (stepU8.struct).name StepU8
-    (λ d. d.answer) (λ d. d.pos) (stepU8.the_type).to_one (λ a n. record { answer = a; pos = n }) (λ a n. refl) (λ a n. refl)
+abbrev pub of_u8 : StepType
+of_u8 = sort UnpackedU8.the_field UnpackedU8'.the_field_laws UnpackedU8'.the_field_plain UnpackedU8'.mir refl (step_u8.struct).name StepU8
+    (λ d. d.answer) (λ d. d.pos) (step_u8.the_type).to_one (λ a n. record { answer = a; pos = n }) (λ a n. refl) (λ a n. refl)
 
-abbrev pub ofU32 : StepType
-ofU32 = sort UnpackedU32.the_field UnpackedU32'.the_field_laws UnpackedU32'.the_field_plain UnpackedU32'.mir refl (stepU32.struct).name StepU32
-    (λ d. d.answer) (λ d. d.pos) (stepU32.the_type).to_one (λ a n. record { answer = a; pos = n }) (λ a n. refl) (λ a n. refl)
+abbrev pub of_u32 : StepType
+of_u32 = sort UnpackedU32.the_field UnpackedU32'.the_field_laws UnpackedU32'.the_field_plain UnpackedU32'.mir refl (step_u32.struct).name StepU32
+    (λ d. d.answer) (λ d. d.pos) (step_u32.the_type).to_one (λ a n. record { answer = a; pos = n }) (λ a n. refl) (λ a n. refl)
 
-abbrev pub ofF32 : StepType
-ofF32 = sort UnpackedF32.the_field UnpackedF32'.the_field_laws UnpackedF32'.the_field_plain UnpackedF32'.mir refl (stepF32.struct).name StepF32
-    (λ d. d.answer) (λ d. d.pos) (stepF32.the_type).to_one (λ a n. record { answer = a; pos = n }) (λ a n. refl) (λ a n. refl)
+abbrev pub of_f32 : StepType
+of_f32 = sort UnpackedF32.the_field UnpackedF32'.the_field_laws UnpackedF32'.the_field_plain UnpackedF32'.mir refl (step_f32.struct).name StepF32
+    (λ d. d.answer) (λ d. d.pos) (step_f32.the_type).to_one (λ a n. record { answer = a; pos = n }) (λ a n. refl) (λ a n. refl)
 
-abbrev pub ofName39 : StepType
-ofName39 = sort Name39.the_field Name39'.the_field_laws Name39'.the_field_plain Name39'.mir refl (stepName39.struct).name StepName39
-    (λ d. d.answer) (λ d. d.pos) (stepName39.the_type).to_one (λ a n. record { answer = a; pos = n }) (λ a n. refl) (λ a n. refl)
+abbrev pub of_name39 : StepType
+of_name39 = sort Name39.the_field Name39'.the_field_laws Name39'.the_field_plain Name39'.mir refl (step_name39.struct).name StepName39
+    (λ d. d.answer) (λ d. d.pos) (step_name39.the_type).to_one (λ a n. record { answer = a; pos = n }) (λ a n. refl) (λ a n. refl)

@@ -34,17 +34,17 @@ pub record StepType : Type 2 where
   pub made-pos : (a : Answer.Value) (p : ℕ) → p ≡ pos (make a p)
 
 -- what else a function takes, by its MIR types: its locals, and the operands that hand it on, from the local k
-abbrev pub takenLocals : List Ty → List Local → List Local
-takenLocals [] ls = ls
-takenLocals (τ ∷ τs) ls = local τ value_local ∷ takenLocals τs ls
+abbrev pub taken_locals : List Ty → List Local → List Local
+taken_locals [] ls = ls
+taken_locals (τ ∷ τs) ls = local τ value_local ∷ taken_locals τs ls
 
-abbrev pub takenOpds : List Ty → ℕ → List Opd
-takenOpds [] k = []
-takenOpds (τ ∷ τs) k = copy (place k []) ∷ takenOpds τs (suc k)
+abbrev pub taken_opds : List Ty → ℕ → List Opd
+taken_opds [] k = []
+taken_opds (τ ∷ τs) k = copy (place k []) ∷ taken_opds τs (suc k)
 
 module _ (Z : StepType) where
-  abbrev pub answerRow : RattleType
-  answerRow = Recorded Z.Answer.row Z.Answer.Value Z.Answer.into Z.Answer.into_one
+  abbrev pub answer_row : RattleType
+  answer_row = Recorded Z.Answer.row Z.Answer.Value Z.Answer.into Z.Answer.into_one
 
   abbrev pub declared : Declared
   declared = record { name = Z.name; args = []; parts = Z.Answer ∷ usize-field ∷ []; D = Z.D; to = λ d. (Z.Answer.into (Z.answer d), (Z.pos d, tt)); to_one = Z.to_one }
@@ -52,33 +52,33 @@ module _ (Z : StepType) where
   abbrev pub L : Laws declared
   L = (Z.laws, (usize-laws, tt))
 
-  abbrev pub stepRow : RattleType
-  stepRow = row declared
+  abbrev pub step_row : RattleType
+  step_row = row declared
 
-  abbrev pub stepTy : Ty
-  stepTy = ty_struct Z.name (tcons Z.mir (tcons (ty_int w64) tnil))
+  abbrev pub step_ty : Ty
+  step_ty = ty_struct Z.name (tcons Z.mir (tcons (ty_int w64) tnil))
 
   abbrev pub value : Z.D → Val
   value d = Z.laws.val (Z.Answer.into (Z.answer d))
 
-  abbrev pub stepValue : Z.D → Val
-  stepValue d = vstruct (vcons (value d) (vcons (vint w64 (Z.pos d)) vnil))
+  abbrev pub step_value : Z.D → Val
+  step_value d = vstruct (vcons (value d) (vcons (vint w64 (Z.pos d)) vnil))
 
-  pub step_is : (d : Z.D) (vs : List Val) → Is stepRow d vs → vs ≡ stepValue d ∷ []
+  pub step_is : (d : Z.D) (vs : List Val) → Is step_row d vs → vs ≡ step_value d ∷ []
   step_is = tells declared L
 
-  pub answer-is : (d : Z.D) (vs : List Val) → Is stepRow d vs → Is answerRow (Z.answer d) (value d ∷ [])
+  pub answer-is : (d : Z.D) (vs : List Val) → Is step_row d vs → Is answer_row (Z.answer d) (value d ∷ [])
   answer-is d vs is = (owed declared L d vs is).0
 
-  pub pos-fits : (d : Z.D) (vs : List Val) → Is stepRow d vs → Z.pos d < 2 ^ 64
+  pub pos-fits : (d : Z.D) (vs : List Val) → Is step_row d vs → Z.pos d < 2 ^ 64
   pos-fits d vs is = (owed declared L d vs is).1.0.1
 
   module _ {M : Type 1} {𝓤 : Ura M} (𝓛 : Logic 𝓤) where
-    pub answer_typed : (d : Z.D) (vs : List Val) → Is stepRow d vs → T (has_ty Z.mir (value d)) × WT (value d)
+    pub answer_typed : (d : Z.D) (vs : List Val) → Is step_row d vs → T (has_ty Z.mir (value d)) × WT (value d)
     answer_typed d vs is = (subst (λ (τs : List Ty). Typed τs (value d ∷ [])) Z.mir_is ((Z.laws.lawful 𝓛).typed (Z.Answer.into (Z.answer d)) (value d ∷ []) (answer-is d vs is))).0
 
-    pub step_typed : (d : Z.D) (vs : List Val) → Is stepRow d vs → T (has_ty stepTy (stepValue d)) × WT (stepValue d)
+    pub step_typed : (d : Z.D) (vs : List Val) → Is step_row d vs → T (has_ty step_ty (step_value d)) × WT (step_value d)
     step_typed d vs is = as_fields (Z.mir ∷ ty_int w64 ∷ []) (value d ∷ vint w64 (Z.pos d) ∷ []) (answer_typed d vs is, ((tt, record { fits = pos-fits d vs is }), tt))
 
-    pub answer-made : Makes 𝓛 answerRow (Is answerRow)
-    answer-made a vs is = makes_shadow 𝓛 (answerRow.own_val a vs) (Z.plain (Z.Answer.into a) vs) is
+    pub answer-made : Makes 𝓛 answer_row (Is answer_row)
+    answer-made a vs is = makes_shadow 𝓛 (answer_row.own_val a vs) (Z.plain (Z.Answer.into a) vs) is

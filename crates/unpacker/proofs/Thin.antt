@@ -31,7 +31,7 @@ use denote.Struct.Steps.{spelt}
 use denote.Struct.Values.{Values}
 use Rattle.unpacker.specs.Unpacker.{moved}
 use Rattle.unpacker.specs.declared.Unpacker.{Unpacker}
-use Rattle.unpacker.proofs.Steps.{StepType, stepRow}
+use Rattle.unpacker.proofs.Steps.{StepType, step_row}
 use Rattle.unpacker.specs.contracts.Unpacker as T
 use Rattle.unpacker.proofs.Unpacker.TheLaws as T'
 
@@ -50,8 +50,8 @@ behind = plain (λ κs. T.the_row (named_lft 2 1 tt κs))
 abbrev pub unpacker : Sym
 unpacker = (T.struct (α [])).name
 
-abbrev pub unpackerTy : Ty
-unpackerTy = T'.mir erased
+abbrev pub unpacker_ty : Ty
+unpacker_ty = T'.mir erased
 
 module _ (κ' : Lft) where
   abbrev D : Declared
@@ -91,24 +91,24 @@ module _ {M : Type 1} {𝓤 : Ura M} {𝓛 : Logic 𝓤} {K : Type 0} {Γ : List
   module _ (κ κ' : Lft) (q : Share) (b o : ℕ) (γ : GName) (h : Unpacker) where
     -- the struct's cell, what it owns and the open borrow, and what is known of the struct
     pub opened : (Is (B κ') h (T'.lowered h ∷ [])
-        → Seq K 𝓛 (‵ (fat full_share unpackerTy b o (T'.lowered h)) ∷ ‵ (Own κ' h) ∷ ‵ (fobor κ q (Body (mem (B κ')) b o γ)) ∷ ‵ (fobs γ ((B κ').coded.code h)) ∷ ‵ (fauth γ ((B κ').coded.code h)) ∷ Γ) G)
+        → Seq K 𝓛 (‵ (fat full_share unpacker_ty b o (T'.lowered h)) ∷ ‵ (Own κ' h) ∷ ‵ (fobor κ q (Body (mem (B κ')) b o γ)) ∷ ‵ (fobs γ ((B κ').coded.code h)) ∷ ‵ (fauth γ ((B κ').coded.code h)) ∷ Γ) G)
         → Seq K 𝓛 (‵ (fobs γ ((B κ').coded.code h)) ∷ ‵ (fbor κ (Body (mem (B κ')) b o γ)) ∷ ‵ (flft κ q) ∷ Γ) G
     opened k =
         opens t z (B κ') {h = h} b o (λ vs. spelt t (B κ') (Is (B κ')) (shows 𝓛 (B κ')) (LL.vals (D κ') (L κ')) (LL.tells (D κ') (L κ')) full_share h vs b o $
-        use1 𝓛 (‵ (fat full_share unpackerTy b o (T'.lowered h))) (𝓛.laws.raw_at full_share unpackerTy b o (T'.lowered h)) $
+        use1 𝓛 (‵ (fat full_share unpacker_ty b o (T'.lowered h))) (𝓛.laws.raw_at full_share unpacker_ty b o (T'.lowered h)) $
         move t (1 ∷ []) $ peeks t (B κ') (Is (B κ')) (shows 𝓛 (B κ')) h (T'.lowered h ∷ []) (λ was. move t (1 ∷ 0 ∷ []) $ k was))
 
     -- and closed, with m stored in its cell
     pub closed : {u v : Gv} (m : ℕ) → m < 2 ^ 64 → Step K 𝓛 (‵ (fobs γ ((B κ').coded.code (moved h m))) ∷ ‵ (fbor κ (Body (mem (B κ')) b o γ)) ∷ ‵ (flft κ q) ∷ Γ) G
-        (‵ (fat full_share unpackerTy b o (T'.lowered (moved h m))) ∷ ‵ (Own κ' h) ∷ ‵ (fobor κ q (Body (mem (B κ')) b o γ)) ∷ ‵ (fobs γ u) ∷ ‵ (fauth γ v) ∷ Γ) G
+        (‵ (fat full_share unpacker_ty b o (T'.lowered (moved h m))) ∷ ‵ (Own κ' h) ∷ ‵ (fobor κ q (Body (mem (B κ')) b o γ)) ∷ ‵ (fobs γ u) ∷ ‵ (fauth γ v) ∷ Γ) G
     closed m fits = step (λ s.
-        use1 𝓛 (‵ (cell_at full_share (B κ').mir (T'.lowered (moved h m) ∷ []) b o)) (𝓛.laws.at_raw full_share unpackerTy b o (T'.lowered (moved h m))) $
+        use1 𝓛 (‵ (cell_at full_share (B κ').mir (T'.lowered (moved h m) ∷ []) b o)) (𝓛.laws.at_raw full_share unpacker_ty b o (T'.lowered (moved h m))) $
         move t (1 ∷ []) $ use1 𝓛 (‵ (Own κ' (moved h m))) (again 𝓛 κ' h m fits) $ move t (1 ∷ 0 ∷ []) $
         closes t z (B κ') (moved h m) (T'.lowered (moved h m) ∷ []) b o $ s)
 
   -- a step has answered d, which is some value u, with what its contract says of d
   pub answered : (Z : StepType) (i : Item 𝓤) (u : Val) (said : Z.D → SProp 𝓤) (φ : Z.D → Type 0) → ((d : Z.D) → ent 𝓤 (said d) (fact 𝓤 (φ d)))
-      → ((d : Z.D) → φ d → Is (stepRow Z) d (u ∷ []) → Seq K 𝓛 (i ∷ Γ) G) → Seq K 𝓛 (raw (mean 𝓛 (later (some (λ (d : Z.D). (i ⊛ ‵ ((stepRow Z).own d (u ∷ []))) ⊛ raw (said d))))) ∷ Γ) G
+      → ((d : Z.D) → φ d → Is (step_row Z) d (u ∷ []) → Seq K 𝓛 (i ∷ Γ) G) → Seq K 𝓛 (raw (mean 𝓛 (later (some (λ (d : Z.D). (i ⊛ ‵ ((step_row Z).own d (u ∷ []))) ⊛ raw (said d))))) ∷ Γ) G
   answered Z i u said φ tells k =
-      use1 𝓛 (later (some (λ (d : Z.D). (i ⊛ ‵ ((stepRow Z).own d (u ∷ []))) ⊛ raw (said d)))) (id⊢ 𝓤 _) $ await t z $ pick t (λ d. split t $ move t (1 ∷ []) $ use1 𝓛 (raw (fact 𝓤 (φ d))) (tells d) $ heard t (φ d) (λ e.
-      split t $ move t (1 ∷ []) $ facts t (stepRow Z) (Is (stepRow Z)) (shows 𝓛 (stepRow Z)) d (u ∷ []) (λ is. k d e is)))
+      use1 𝓛 (later (some (λ (d : Z.D). (i ⊛ ‵ ((step_row Z).own d (u ∷ []))) ⊛ raw (said d)))) (id⊢ 𝓤 _) $ await t z $ pick t (λ d. split t $ move t (1 ∷ []) $ use1 𝓛 (raw (fact 𝓤 (φ d))) (tells d) $ heard t (φ d) (λ e.
+      split t $ move t (1 ∷ []) $ facts t (step_row Z) (Is (step_row Z)) (shows 𝓛 (step_row Z)) d (u ∷ []) (λ is. k d e is)))

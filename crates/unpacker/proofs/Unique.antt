@@ -3,11 +3,11 @@ use mathlib.Core.Path.{sym, ap, ◌∙◌}
 use mathlib.Core.List.{List}
 use Prim.Native.Nat.{ℕ}
 use Rattle.refusals.specs.OneAnswer.{ToldApart, OnlyBoth}
-use Rattle.packer.specs.Unpacking.{unpackedU8, unpackedU32, unpackedF32}
+use Rattle.packer.specs.Unpacking.{unpacked_u8, unpacked_u32, unpacked_f32}
 use Rattle.packer.proofs.Unique as packer
 use Rattle.names.specs.Names.{named39}
 use Rattle.names.proofs.Unique as names
-use Rattle.unpacker.specs.Unpacker.{Read, unsignedRead, scaledRead, nameRead, ReadIs}
+use Rattle.unpacker.specs.Unpacker.{Read, unsigned_read, scaled_read, name_read, ReadIs}
 use Rattle.unpacker.specs.OneAnswer.{OneAnswer}
 use Rattle.unpacker.specs.declared.Unpacker.{Unpacker}
 
@@ -22,8 +22,8 @@ one_answer =
       step-u32 = λ a b e. λ i. record { answer = (packer.one_answer).u32 a.answer b.answer (ap (λ (r : Read _). r.answer) e) i; pos = ap (λ (r : Read _). r.place) e i };
       step-f32 = λ a b e. λ i. record { answer = (packer.one_answer).f32 a.answer b.answer (ap (λ (r : Read _). r.answer) e) i; pos = ap (λ (r : Read _). r.place) e i };
       step-c-string-39 = λ a b e. λ i. record { answer = (names.one_answer).name39 a.answer b.answer (ap (λ (r : Read _). r.answer) e) i; pos = ap (λ (r : Read _). r.place) e i };
-      unpack-u8 = read-unique unpackedU8 (packer.one_answer).u8 (unsignedRead 1);
-      unpack-u32 = read-unique unpackedU32 (packer.one_answer).u32 (unsignedRead 4);
-      unpack-f32 = λ scale. read-unique unpackedF32 (packer.one_answer).f32 (scaledRead 4 scale);
-      unpack-c-string-39 = read-unique named39 (names.one_answer).name39 (nameRead 39);
+      unpack-u8 = read-unique unpacked_u8 (packer.one_answer).u8 (unsigned_read 1);
+      unpack-u32 = read-unique unpacked_u32 (packer.one_answer).u32 (unsigned_read 4);
+      unpack-f32 = λ scale. read-unique unpacked_f32 (packer.one_answer).f32 (scaled_read 4 scale);
+      unpack-c-string-39 = read-unique named39 (names.one_answer).name39 (name_read 39);
     }

@@ -32,8 +32,8 @@ use denote.Triple.Clauses.{Ended, closing}
 use denote.Triple.Walked.{Goes-ref, walked, walk_Meets}
 use Rattle.unpacker.specs.Unpacker.{Read}
 use Rattle.unpacker.specs.declared.Unpacker.{Unpacker}
-use Rattle.unpacker.proofs.Steps.{StepType, takenLocals, takenOpds, stepTy, step_is, answer-is, pos-fits, step_typed, answer_typed}
-use Rattle.unpacker.proofs.Thin.{B, behind, unpacker, unpackerTy, Own, opened, closed, answered, held-typed}
+use Rattle.unpacker.proofs.Steps.{StepType, taken_locals, taken_opds, step_ty, step_is, answer-is, pos-fits, step_typed, answer_typed}
+use Rattle.unpacker.proofs.Thin.{B, behind, unpacker, unpacker_ty, Own, opened, closed, answered, held-typed}
 use Rattle.unpacker.proofs.Contracts as contracts
 
 -- the method's MIR; what else it takes has the types τs
@@ -45,18 +45,18 @@ shape τs Z step = record {
   locals =
       local Z.mir value_local ∷
       local (ty_ref (named 0) mut (ty_named (unpacker, named 1 ∷ []))) value_local ∷
-      takenLocals τs (
+      taken_locals τs (
       local (ShrSlice erased [] u8).written.ty value_local ∷
       local (ty_int w64) value_local ∷
-      local (stepTy Z) value_local ∷ []);
+      local (step_ty Z) value_local ∷ []);
   body =
       let slice = length τs + 2 in
       let pos = length τs + 3 in
       let stepped = length τs + 4 in
-      seq (assign (place slice []) (rv_opd (copy (place 1 (deref unpackerTy ∷ field 0 ∷ [])))))
-      (seq (assign (place pos []) (rv_opd (copy (place 1 (deref unpackerTy ∷ field 1 ∷ [])))))
-      (seq (call step (copy (place slice []) ∷ copy (place pos []) ∷ takenOpds τs 2) (place stepped []))
-      (seq (assign (place 1 (deref unpackerTy ∷ field 1 ∷ [])) (rv_opd (copy (place stepped (field 1 ∷ [])))))
+      seq (assign (place slice []) (rv_opd (copy (place 1 (deref unpacker_ty ∷ field 0 ∷ [])))))
+      (seq (assign (place pos []) (rv_opd (copy (place 1 (deref unpacker_ty ∷ field 1 ∷ [])))))
+      (seq (call step (copy (place slice []) ∷ copy (place pos []) ∷ taken_opds τs 2) (place stepped []))
+      (seq (assign (place 1 (deref unpacker_ty ∷ field 1 ∷ [])) (rv_opd (copy (place stepped (field 1 ∷ [])))))
       (seq (assign (place 0 []) (rv_opd (copy (place stepped (field 0 ∷ []))))) return))));
 }
 
@@ -92,8 +92,8 @@ module _ (Z : StepType) {X : Type 0} (answers : Z.Answer.Value → X) (read : Li
           move ! (5 ∷ 1 ∷ []) $ use2 𝓛 (raw (StepTriple.pre to_step) ⊛ ‵ (Own κ' h)) (contracts.asked Z answers [] tt (λ κs es. read) 𝓤 𝓛 κ' q' h tt tt (id⊢ 𝓤 (emp 𝓤)) was.1.1.1.0.1) $ split ! $
           calls_at ! fm StepTriple known to_step (and_then ! (load ! (from ! (stop !)) (look ! 11 refl)) (and_then ! (load ! (from ! (stop !)) (look ! 9 refl)) (no_more !))) (λ u.
           answered ! tt Z (‵ (flft κ' q') ⊛ ‵ ftrue) u _ _ (contracts.said Z answers [] tt (λ κs es. read) 𝓤 𝓛 κ' q' h tt tt) (λ d e is.
-          land ! (from ! (stop !)) (init ! 7 refl (subst (λ (z : Val). T (has_ty (stepTy Z) z) × WT z) (sym (ap only (step_is Z d _ is))) (step_typed Z 𝓛 d _ is))) $
-          rewrite ! 7 (λ (z : Val). ‵ (fat full_share (stepTy Z) l₄ 0 z)) (ap only (step_is Z d _ is)) refl $
+          land ! (from ! (stop !)) (init ! 7 refl (subst (λ (z : Val). T (has_ty (step_ty Z) z) × WT z) (sym (ap only (step_is Z d _ is))) (step_typed Z 𝓛 d _ is))) $
+          rewrite ! 7 (λ (z : Val). ‵ (fat full_share (step_ty Z) l₄ 0 z)) (ap only (step_is Z d _ is)) refl $
           -- ['a's token; what the struct owns; its cell; the open borrow; obs; auth; nothing; _4; …]
           assigns ! (of_opd ! (load ! (from ! (fld ! refl (stop !))) (look_in ! 7 (sub ! 1 refl (whole !))))) (from ! (hop ! (look ! 13 refl) (fld ! refl (stop !)))) (store_in ! 2 (sub ! 1 refl (whole !)) (tt, record { fits = pos-fits Z d _ is })) $
           assigns ! (of_opd ! (load ! (from ! (fld ! refl (stop !))) (look_in ! 7 (sub ! 0 refl (whole !))))) (from ! (stop !)) (init ! 15 refl (answer_typed Z 𝓛 d _ is)) $

@@ -34,7 +34,7 @@ use denote.Triple.Clauses.{Ended, Clauses, closing}
 use denote.Triple.Walked.{Stays, stay_dropped, Goes-ref, Goes-dropped, walked, walk_Meets}
 use Rattle.unpacker.specs.Unpacker.{Read}
 use Rattle.unpacker.specs.declared.Unpacker.{Unpacker}
-use Rattle.unpacker.proofs.Steps.{StepType, stepTy, step_is, answer-is, pos-fits, step_typed, answer_typed}
+use Rattle.unpacker.proofs.Steps.{StepType, step_ty, step_is, answer-is, pos-fits, step_typed, answer_typed}
 use Rattle.unpacker.proofs.Thin.{B, behind, Own, opened, closed, answered, held-typed}
 use Rattle.unpacker.proofs.Contracts as contracts
 use Rattle.unpacker.proofs.Walk.{shape}
@@ -97,8 +97,8 @@ module _ (Z : StepType) {X : Type 0} (answers : Z.Answer.Value → X) (read : Fl
           move ! (5 ∷ 1 ∷ []) $ use2 𝓛 (raw (StepTriple.pre to_step) ⊛ ‵ (Own κ' h)) (asked was.1.1.1.0.1) $ split ! $
           calls_at ! fm StepTriple known to_step (and_then ! (load ! (from ! (stop !)) (look ! 11 refl)) (and_then ! (load ! (from ! (stop !)) (look ! 9 refl)) (and_then ! (load ! (from ! (stop !)) (look ! 13 refl)) (no_more !)))) (λ u.
           answered ! tt Z (‵ (flft κ' q') ⊛ ‵ ftrue) u _ _ (contracts.said Z answers taken (yes, tt) (λ κs es. read es.0) 𝓤 𝓛 κ' q' h (scale, tt) (v ∷ [], tt)) (λ d e is.
-          land ! (from ! (stop !)) (init ! 7 refl (subst (λ (z : Val). T (has_ty (stepTy Z) z) × WT z) (sym (ap only (step_is Z d _ is))) (step_typed Z 𝓛 d _ is))) $
-          rewrite ! 7 (λ (z : Val). ‵ (fat full_share (stepTy Z) l₅ 0 z)) (ap only (step_is Z d _ is)) refl $
+          land ! (from ! (stop !)) (init ! 7 refl (subst (λ (z : Val). T (has_ty (step_ty Z) z) × WT z) (sym (ap only (step_is Z d _ is))) (step_typed Z 𝓛 d _ is))) $
+          rewrite ! 7 (λ (z : Val). ‵ (fat full_share (step_ty Z) l₅ 0 z)) (ap only (step_is Z d _ is)) refl $
           -- ['a's token; what the struct owns; its cell; the open borrow; obs; auth; what the scale owns; _5; …]
           assigns ! (of_opd ! (load ! (from ! (fld ! refl (stop !))) (look_in ! 7 (sub ! 1 refl (whole !))))) (from ! (hop ! (look ! 15 refl) (fld ! refl (stop !)))) (store_in ! 2 (sub ! 1 refl (whole !)) (tt, record { fits = pos-fits Z d _ is })) $
           assigns ! (of_opd ! (load ! (from ! (fld ! refl (stop !))) (look_in ! 7 (sub ! 0 refl (whole !))))) (from ! (stop !)) (init ! 17 refl (answer_typed Z 𝓛 d _ is)) $

@@ -3,7 +3,7 @@
 use Rattle.std.specs.Prelude.{◌≡◌, cond, List, ℕ, ◌+◌, eqb, ltb, Float, length}
 use Rattle.std.specs.Borrow.{Bor}
 use Rattle.refusals.specs.Refusals.{Answer, ok, refused}
-use Rattle.packer.specs.Unpacking.{unsignedAt, scaledAt, unpackedU8, unpackedU32, unpackedF32}
+use Rattle.packer.specs.Unpacking.{unsigned_at, scaled_at, unpacked_u8, unpacked_u32, unpacked_f32}
 use Rattle.names.specs.Names.{Name, name_at, named39}
 use Rattle.unpacker.specs.declared.Unpacker.{Unpacker}
 use Rattle.unpacker.specs.declared.StepU8.{StepU8}
@@ -17,44 +17,44 @@ pub record Read (X : Type 0) : Type 0 where
   pub place : ℕ
 
 -- where a number leaves the position: after its bytes; a refused one consumes nothing
-abbrev pub placeAfter : {A : Type 0} → Answer (A × ℕ) → ℕ → ℕ
-placeAfter (ok (value, next)) pos = next
-placeAfter (refused why) pos = pos
+abbrev pub place_after : {A : Type 0} → Answer (A × ℕ) → ℕ → ℕ
+place_after (ok (value, next)) pos = next
+place_after (refused why) pos = pos
 
 -- the read of a number, by what it answers
 abbrev pub number : {A : Type 0} → Answer (A × ℕ) → ℕ → Read (Answer (A × ℕ))
-number answer pos = record { answer = answer; place = placeAfter answer pos }
+number answer pos = record { answer = answer; place = place_after answer pos }
 
 -- an unsigned number of so many bytes
-abbrev pub unsignedRead : ℕ → List ℕ → ℕ → Read (Answer (ℕ × ℕ))
-unsignedRead width s pos = number (unsignedAt width s pos) pos
+abbrev pub unsigned_read : ℕ → List ℕ → ℕ → Read (Answer (ℕ × ℕ))
+unsigned_read width s pos = number (unsigned_at width s pos) pos
 
--- hS and wS, a signed number over a scale
-abbrev pub scaledRead : ℕ → Float → List ℕ → ℕ → Read (Answer (Float × ℕ))
-scaledRead width scale s pos = number (scaledAt width scale s pos) pos
+-- h_s and w_s, a signed number over a scale
+abbrev pub scaled_read : ℕ → Float → List ℕ → ℕ → Read (Answer (Float × ℕ))
+scaled_read width scale s pos = number (scaled_at width scale s pos) pos
 
 -- where a name of so much room leaves the position: after its NUL. "A read past the end of the slice is 1": at the end, or where it was, past that
 -- already. "2 for a name without NUL": after its room
-unfoldable pub nameEnd : ℕ → List ℕ → ℕ → Answer ℕ → ℕ
-nameEnd room s pos (ok next) = next
-nameEnd room s pos (refused why) = cond (eqb why.number 1) (cond (ltb pos (length s)) (length s) pos) (pos + room)
+unfoldable pub name_end : ℕ → List ℕ → ℕ → Answer ℕ → ℕ
+name_end room s pos (ok next) = next
+name_end room s pos (refused why) = cond (eqb why.number 1) (cond (ltb pos (length s)) (length s) pos) (pos + room)
 
 -- the read of a name
-abbrev pub nameRead : ℕ → List ℕ → ℕ → Read Name
-nameRead room s pos = record { answer = name_at room s pos; place = nameEnd room s pos (name_at room s pos).answer }
+abbrev pub name_read : ℕ → List ℕ → ℕ → Read Name
+name_read room s pos = record { answer = name_at room s pos; place = name_end room s pos (name_at room s pos).answer }
 
 -- the reads that the steps are
-abbrev pub stepU8 : StepU8 → Read (Answer (ℕ × ℕ))
-stepU8 s = record { answer = unpackedU8 s.answer; place = s.pos }
+abbrev pub step_u8 : StepU8 → Read (Answer (ℕ × ℕ))
+step_u8 s = record { answer = unpacked_u8 s.answer; place = s.pos }
 
-abbrev pub stepU32 : StepU32 → Read (Answer (ℕ × ℕ))
-stepU32 s = record { answer = unpackedU32 s.answer; place = s.pos }
+abbrev pub step_u32 : StepU32 → Read (Answer (ℕ × ℕ))
+step_u32 s = record { answer = unpacked_u32 s.answer; place = s.pos }
 
-abbrev pub stepF32 : StepF32 → Read (Answer (Float × ℕ))
-stepF32 s = record { answer = unpackedF32 s.answer; place = s.pos }
+abbrev pub step_f32 : StepF32 → Read (Answer (Float × ℕ))
+step_f32 s = record { answer = unpacked_f32 s.answer; place = s.pos }
 
-abbrev pub stepName39 : StepName39 → Read Name
-stepName39 s = record { answer = named39 s.answer; place = s.pos }
+abbrev pub step_name39 : StepName39 → Read Name
+step_name39 s = record { answer = named39 s.answer; place = s.pos }
 
 -- `new`: the lent slice, at its start
 abbrev pub fresh : Bor (List ℕ) → Unpacker

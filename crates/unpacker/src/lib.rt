@@ -3,11 +3,11 @@
 // and a name of 39. Each method takes it apart, calls a step on the slice and the position, and
 // stores the position that came back.
 ghost use Rattle.std.specs.Prelude.{◌≡◌};
-ghost use Rattle.packer.specs.Unpacking.{unpackedU8, unpackedU32, unpackedF32};
+ghost use Rattle.packer.specs.Unpacking.{unpacked_u8, unpacked_u32, unpacked_f32};
 ghost use Rattle.names.specs.Names.{name_at, named39};
 ghost use Rattle.refusals.specs.Refusals.{consumed};
-ghost use Rattle.format.specs.Format.{nameRoom};
-ghost use Rattle.unpacker.specs.Unpacker.{fresh, placeAfter, nameEnd, unsignedRead, scaledRead, nameRead, stepU8, stepU32, stepF32, stepName39, ReadIs};
+ghost use Rattle.format.specs.Format.{name_room};
+ghost use Rattle.unpacker.specs.Unpacker.{fresh, place_after, name_end, unsigned_read, scaled_read, name_read, step_u8, step_u32, step_f32, step_name39, ReadIs};
 
 use names::Name39;
 use packer::{UnpackedF32, UnpackedU8, UnpackedU32};
@@ -47,7 +47,7 @@ pub struct StepName39 {
 // Where a number leaves the position. The Rust's `consume` tests before it moves, so that a refusal
 // leaves it as it was.
 fn after_u8(answer: UnpackedU8, pos: usize) -> usize
-    ensures { result ≡ placeAfter (unpackedU8 answer) pos }
+    ensures { result ≡ place_after (unpacked_u8 answer) pos }
 {
     match answer {
         UnpackedU8::Got(_, next) => next,
@@ -56,7 +56,7 @@ fn after_u8(answer: UnpackedU8, pos: usize) -> usize
 }
 
 fn after_u32(answer: UnpackedU32, pos: usize) -> usize
-    ensures { result ≡ placeAfter (unpackedU32 answer) pos }
+    ensures { result ≡ place_after (unpacked_u32 answer) pos }
 {
     match answer {
         UnpackedU32::Got(_, next) => next,
@@ -65,7 +65,7 @@ fn after_u32(answer: UnpackedU32, pos: usize) -> usize
 }
 
 fn after_f32(answer: UnpackedF32, pos: usize) -> usize
-    ensures { result ≡ placeAfter (unpackedF32 answer) pos }
+    ensures { result ≡ place_after (unpacked_f32 answer) pos }
 {
     match answer {
         UnpackedF32::Got(_, next) => next,
@@ -77,7 +77,7 @@ fn after_f32(answer: UnpackedF32, pos: usize) -> usize
 // room, so that the sum fits.
 fn name_end(scan: Consumed, buf: &[u8], pos: usize, room: usize) -> usize
     requires { consumed scan ≡ (name_at room buf.now pos).answer }
-    ensures { result ≡ nameEnd room buf.now pos (consumed scan) }
+    ensures { result ≡ name_end room buf.now pos (consumed scan) }
 {
     match scan {
         Consumed::To(next) => next,
@@ -94,7 +94,7 @@ fn name_end(scan: Consumed, buf: &[u8], pos: usize, room: usize) -> usize
 }
 
 pub fn step_u8(buf: &[u8], pos: usize) -> StepU8
-    ensures { stepU8 result ≡ unsignedRead 1 buf.now pos }
+    ensures { step_u8 result ≡ unsigned_read 1 buf.now pos }
 {
     let answer = packer::unpack_u8(buf, pos);
     let next = after_u8(answer, pos);
@@ -102,7 +102,7 @@ pub fn step_u8(buf: &[u8], pos: usize) -> StepU8
 }
 
 pub fn step_u32(buf: &[u8], pos: usize) -> StepU32
-    ensures { stepU32 result ≡ unsignedRead 4 buf.now pos }
+    ensures { step_u32 result ≡ unsigned_read 4 buf.now pos }
 {
     let answer = packer::unpack_u32(buf, pos);
     let next = after_u32(answer, pos);
@@ -110,7 +110,7 @@ pub fn step_u32(buf: &[u8], pos: usize) -> StepU32
 }
 
 pub fn step_f32(buf: &[u8], pos: usize, scale: f32) -> StepF32
-    ensures { stepF32 result ≡ scaledRead 4 scale buf.now pos }
+    ensures { step_f32 result ≡ scaled_read 4 scale buf.now pos }
 {
     let answer = packer::unpack_f32(buf, pos, scale);
     let next = after_f32(answer, pos);
@@ -118,7 +118,7 @@ pub fn step_f32(buf: &[u8], pos: usize, scale: f32) -> StepF32
 }
 
 pub fn step_c_string_39(buf: &[u8], pos: usize) -> StepName39
-    ensures { stepName39 result ≡ nameRead nameRoom buf.now pos }
+    ensures { step_name39 result ≡ name_read name_room buf.now pos }
 {
     let answer = names::unpack_c_string_39(buf, pos);
     let scan = answer.answer;
@@ -134,7 +134,7 @@ impl<'a> Unpacker<'a> {
     }
 
     pub fn unpack_u8(&mut self) -> UnpackedU8
-        ensures { ReadIs (unsignedRead 1) self.old (unpackedU8 result) self.new }
+        ensures { ReadIs (unsigned_read 1) self.old (unpacked_u8 result) self.new }
     {
         let buf = self.buf;
         let pos = self.pos;
@@ -144,7 +144,7 @@ impl<'a> Unpacker<'a> {
     }
 
     pub fn unpack_u32(&mut self) -> UnpackedU32
-        ensures { ReadIs (unsignedRead 4) self.old (unpackedU32 result) self.new }
+        ensures { ReadIs (unsigned_read 4) self.old (unpacked_u32 result) self.new }
     {
         let buf = self.buf;
         let pos = self.pos;
@@ -154,7 +154,7 @@ impl<'a> Unpacker<'a> {
     }
 
     pub fn unpack_f32(&mut self, scale: f32) -> UnpackedF32
-        ensures { ReadIs (scaledRead 4 scale) self.old (unpackedF32 result) self.new }
+        ensures { ReadIs (scaled_read 4 scale) self.old (unpacked_f32 result) self.new }
     {
         let buf = self.buf;
         let pos = self.pos;
@@ -165,7 +165,7 @@ impl<'a> Unpacker<'a> {
 
     // The Rust's `unpack_c_string` at 39, the room of FwVersion's names.
     pub fn unpack_c_string_39(&mut self) -> Name39
-        ensures { ReadIs (nameRead nameRoom) self.old (named39 result) self.new }
+        ensures { ReadIs (name_read name_room) self.old (named39 result) self.new }
     {
         let buf = self.buf;
         let pos = self.pos;

@@ -1,29 +1,29 @@
 -- The one claim of the table: every row holds, by computing it.
 use mathlib.Core.Path.{refl}
 use lib.Ieee.{mul, round, to_signed, of_int, div, of_bits}
-use Rattle.checksum.specs.Xmodem.{bringDown, remainder, bitsOfByte, bits_of, checksumOf}
-use Rattle.floats.specs.Numbers.{overScale, timesScale}
-use Rattle.packer.specs.Numbers.{beAt, bigEndian, signed_of, unsignedOf, total, numbersAt}
-use Rattle.packer.specs.Unpacking.{readAt, consumeAt}
-use Rattle.names.specs.Names.{nulWithin}
-use Rattle.frame.specs.Frame.{frame_of, declared, payloadIn}
-use Rattle.frame.specs.Opening.{byte_at, payloadPart, judgeSumOf, finishOf}
-use Rattle.frame.specs.Wrapping.{wrapAnswer, wrapAfter}
-use Rattle.encode.specs.Payload.{hopBytes, payloadOf}
-use Rattle.tables.specs.Tables.{hasBit, takes, widths}
-use Rattle.codes.specs.Codes.{faultOf}
-use Rattle.telemetry.specs.Telemetry.{valuesWith, valuesOf}
-use Rattle.layout.specs.Layout.{extentOf, extent, rawOf, raws}
-use Rattle.layout.specs.Replies.{layoutIn, fieldsEnd}
-use Rattle.judge.specs.Judge.{judgeOf}
-use Rattle.reply.specs.Reply.{blankOf, emptyReply, replyOf}
-use Rattle.reply.specs.Decode.{replyIn, replyBy, decodeOf}
-use Rattle.vesc.specs.Frames.{All, pFrames}
+use Rattle.checksum.specs.Xmodem.{bring_down, remainder, bits_of_byte, bits_of, checksum_of}
+use Rattle.floats.specs.Numbers.{over_scale, times_scale}
+use Rattle.packer.specs.Numbers.{be_at, big_endian, signed_of, unsigned_of, total, numbers_at}
+use Rattle.packer.specs.Unpacking.{read_at, consume_at}
+use Rattle.names.specs.Names.{nul_within}
+use Rattle.frame.specs.Frame.{frame_of, declared, payload_in}
+use Rattle.frame.specs.Opening.{byte_at, payload_part, judge_sum_of, finish_of}
+use Rattle.frame.specs.Wrapping.{wrap_answer, wrap_after}
+use Rattle.encode.specs.Payload.{hop_bytes, payload_of}
+use Rattle.tables.specs.Tables.{has_bit, takes, widths}
+use Rattle.codes.specs.Codes.{fault_of}
+use Rattle.telemetry.specs.Telemetry.{values_with, values_of}
+use Rattle.layout.specs.Layout.{extent_of, extent, raw_of, raws}
+use Rattle.layout.specs.Replies.{layout_in, fields_end}
+use Rattle.judge.specs.Judge.{judge_of}
+use Rattle.reply.specs.Reply.{blank_of, empty_reply, reply_of}
+use Rattle.reply.specs.Decode.{reply_in, reply_by, decode_of}
+use Rattle.vesc.specs.Frames.{All, p_frames}
 
-pub p-frames : All pFrames
+pub p-frames : All p_frames
 unfolding
-    mul round to_signed of_int div of_bits bringDown remainder bitsOfByte bits_of checksumOf overScale timesScale beAt bigEndian signed_of unsignedOf total numbersAt readAt
-    consumeAt nulWithin hopBytes payloadOf frame_of declared payloadIn wrapAnswer wrapAfter hasBit takes widths faultOf valuesWith valuesOf extentOf extent rawOf raws layoutIn
-    fieldsEnd byte_at payloadPart judgeSumOf finishOf judgeOf blankOf emptyReply replyOf replyIn replyBy decodeOf
+    mul round to_signed of_int div of_bits bring_down remainder bits_of_byte bits_of checksum_of over_scale times_scale be_at big_endian signed_of unsigned_of total numbers_at read_at
+    consume_at nul_within hop_bytes payload_of frame_of declared payload_in wrap_answer wrap_after has_bit takes widths fault_of values_with values_of extent_of extent raw_of raws layout_in
+    fields_end byte_at payload_part judge_sum_of finish_of judge_of blank_of empty_reply reply_of reply_in reply_by decode_of
 p-frames =
     ((refl, refl), ((refl, refl), ((refl, refl), (refl, (refl, ((refl, refl), ((refl, refl), ((refl, refl), ((refl, refl), ((refl, refl), ((refl, refl), ((refl, refl), ((refl, refl), ((refl, refl), ((refl, refl), ((refl, refl), ((refl, refl, refl, refl), tt)))))))))))))))))

@@ -3,19 +3,19 @@
 use mathlib.Core.Path.{◌≡◌, refl}
 use native.Mathlib.Omega.{arith}
 use borrow.Author.Rules.{rules}
-use Rattle.checksum.specs.Xmodem.{steps_of, byteInOf}
+use Rattle.checksum.specs.Xmodem.{steps_of, byte_in_of}
 use Rattle.checksum.proofs.Turns.{step-more, step-last}
 use Rattle.checksum.proofs.byte_in.Statement.{statement}
 use Rattle.checksum.proofs.byte_in.Tie as tie
 
 abbrev invariant-loop : tie.invariant-loop
-invariant-loop register byte mixed₀ left₀ mixed left = steps_of left mixed ≡ byteInOf register byte
+invariant-loop register byte mixed₀ left₀ mixed left = steps_of left mixed ≡ byte_in_of register byte
 
 abbrev decreases-loop : tie.decreases-loop
 decreases-loop register byte mixed₀ left₀ mixed left = left
 
 loop-holds : tie.Need-loop-init invariant-loop decreases-loop
-unfolding byteInOf
+unfolding byte_in_of
 loop-holds c = refl
 
 step-requires : tie.Need-step-requires invariant-loop decreases-loop

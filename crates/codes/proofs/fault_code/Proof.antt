@@ -1,7 +1,7 @@
 -- `codes::fault_code` meets its contract.
 use mathlib.Core.Path.{sym}
 use borrow.Author.Rules.{rules}
-use Rattle.codes.specs.Codes.{faults, faultOf}
+use Rattle.codes.specs.Codes.{faults, fault_of}
 use Rattle.codes.proofs.Named.{any-default, fault-numbered}
 use Rattle.codes.proofs.fault_code.Statement.{statement}
 use Rattle.codes.proofs.fault_code.Tie as tie
@@ -10,7 +10,7 @@ array-copy-out-result : tie.Need-array-copy-out-result
 array-copy-out-result c = search rules
 
 returns : tie.Need-returns
-unfolding faultOf
+unfolding fault_of
 returns c = any-default faults c.before.before.args.byte _ _ (search rules)
 
 returns-2 : tie.Need-returns-2

@@ -1,13 +1,13 @@
 -- `codes::fault_number` meets its contract: in each of the 31 arms the fault is the arm's.
 use mathlib.Core.Path.{◌≡◌, sym, ap}
 use borrow.Author.Rules.{rules}
-use Rattle.codes.specs.Codes.{faultNumber}
+use Rattle.codes.specs.Codes.{fault_number}
 use Rattle.codes.specs.declared.FaultCode.{FaultCode}
 use Rattle.codes.proofs.fault_number.Statement.{statement}
 use Rattle.codes.proofs.fault_number.Tie as tie
 
-arm : {fault its : FaultCode} → fault ≡ its → faultNumber its ≡ faultNumber fault
-arm is = sym (ap faultNumber is)
+arm : {fault its : FaultCode} → fault ≡ its → fault_number its ≡ fault_number fault
+arm is = sym (ap fault_number is)
 
 -- which variant each arm is of; then what each returns
 pub fault-number-spec : {M : Type 1} → statement M

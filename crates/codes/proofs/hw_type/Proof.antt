@@ -1,21 +1,21 @@
 -- `codes::hw_type` meets its contract.
 use mathlib.Core.Path.{sym}
 use native.Mathlib.Omega.{arith}
-use Rattle.codes.specs.Codes.{hwTypeOf}
+use Rattle.codes.specs.Codes.{hw_type_of}
 use Rattle.codes.proofs.Named.{hw-type-numbered}
 use Rattle.codes.proofs.hw_type.Statement.{statement}
 use Rattle.codes.proofs.hw_type.Tie as tie
 
 returns : tie.Need-returns
-unfolding hwTypeOf
+unfolding hw_type_of
 returns c = rw c.match.keys1
 
 returns-2 : tie.Need-returns-2
-unfolding hwTypeOf
+unfolding hw_type_of
 returns-2 c = rw c.match.keys2
 
 returns-3 : tie.Need-returns-3
-unfolding hwTypeOf
+unfolding hw_type_of
 returns-3 c = rw c.match.keys3
 
 returns-4 : tie.Need-returns-4

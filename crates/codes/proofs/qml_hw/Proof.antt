@@ -1,21 +1,21 @@
 -- `codes::qml_hw` meets its contract.
 use mathlib.Core.Path.{sym}
 use native.Mathlib.Omega.{arith}
-use Rattle.codes.specs.Codes.{qmlHwOf}
+use Rattle.codes.specs.Codes.{qml_hw_of}
 use Rattle.codes.proofs.Named.{qml-hw-numbered}
 use Rattle.codes.proofs.qml_hw.Statement.{statement}
 use Rattle.codes.proofs.qml_hw.Tie as tie
 
 returns : tie.Need-returns
-unfolding qmlHwOf
+unfolding qml_hw_of
 returns c = rw c.match.keys1
 
 returns-2 : tie.Need-returns-2
-unfolding qmlHwOf
+unfolding qml_hw_of
 returns-2 c = rw c.match.keys2
 
 returns-3 : tie.Need-returns-3
-unfolding qmlHwOf
+unfolding qml_hw_of
 returns-3 c = rw c.match.keys3
 
 returns-4 : tie.Need-returns-4

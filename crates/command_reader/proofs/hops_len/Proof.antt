@@ -3,13 +3,13 @@ use mathlib.Core.Path.{◌≡◌}
 use Prim.Native.Nat.{◌+◌, ◌-◌, ◌≤◌}
 use native.Mathlib.Omega.{arith}
 use lib.ListN.{length, drop}
-use Rattle.command_reader.specs.Reader.{hopSize}
+use Rattle.command_reader.specs.Reader.{hop_size}
 use Rattle.command_reader.proofs.Hops.{no-pair, no-hop, a-hop}
 use Rattle.command_reader.proofs.hops_len.Statement.{statement}
 use Rattle.command_reader.proofs.hops_len.Tie as tie
 
 abbrev invariant-loop : tie.invariant-loop
-invariant-loop bytes at₀ at = (at ≤ length bytes) × (hopSize bytes ≡ at + hopSize (drop at bytes))
+invariant-loop bytes at₀ at = (at ≤ length bytes) × (hop_size bytes ≡ at + hop_size (drop at bytes))
 
 abbrev decreases-loop : tie.decreases-loop
 decreases-loop bytes at₀ at = length bytes - at

@@ -3,7 +3,7 @@ use native.Mathlib.Omega.{arith}
 use borrow.Author.Rules.{rules}
 use lib.ListN.{length-append}
 use Rattle.packer.proofs.Writes.{digits-length, two-packs}
-use Rattle.raw_command.specs.Commands.{partsBytes}
+use Rattle.raw_command.specs.Commands.{parts_bytes}
 use Rattle.command_reader.proofs.pack_payload.Statement.{statement}
 use Rattle.command_reader.proofs.pack_payload.Tie as tie
 
@@ -12,8 +12,8 @@ returns c =
     let front = c.before.before.before.before.before.before in
     let s = front.before.before.before.before.args in
     let parts = s.parts in
-    two-packs {p = s.hops.now} {q = partsBytes parts}
-    (omega (arith, length-append s.hops.now (partsBytes parts), digits-length parts.width parts.number))
+    two-packs {p = s.hops.now} {q = parts_bytes parts}
+    (omega (arith, length-append s.hops.now (parts_bytes parts), digits-length parts.width parts.number))
     front.pack-bytes.ensures
     c.before.before.pack-parts.ensures
 

@@ -5,7 +5,7 @@ use lib.ListN.{length}
 use borrow.Author.Rules.{rules}
 use Rattle.frame.proofs.wrap.Reads as wrap-reads
 use Rattle.raw_command.proofs.parts_of.Reads as parts-of-reads
-use Rattle.command_reader.specs.Reader.{hopSize}
+use Rattle.command_reader.specs.Reader.{hop_size}
 use Rattle.command_reader.proofs.Writing.{no-hops, too_long, too_small, wrapped}
 use Rattle.command_reader.proofs.hops_len.Reads as hops-len-reads
 use Rattle.command_reader.proofs.pack_payload.Reads as pack-payload-reads
@@ -18,7 +18,7 @@ use Rattle.command_reader.proofs.write_command.Lts as lts
 -- behind the first test the hop part is of the form
 form
     : (c : lts.After-parts-of (hops-len-reads.Asked, hops-len-reads.Learnt, parts-of-reads.Asked, parts-of-reads.Learnt, pack-payload-reads.Asked, pack-payload-reads.Learnt, wrap-reads.Asked, wrap-reads.Learnt, wrapped-reads.Asked, wrapped-reads.Learnt) reads.Pre reads.Post)
-    → hopSize c.before.before.before.before.before.args.hops.now ≡ length c.before.before.before.before.before.args.hops.now
+    → hop_size c.before.before.before.before.before.args.hops.now ≡ length c.before.before.before.before.before.args.hops.now
 form c = sym c.before.before.hops-len.ensures.0 ∙ c.before.if1.false
 
 too-long-there : tie.Need-returns-2

@@ -3,7 +3,7 @@ use mathlib.Core.Path.{refl, ◌∙◌}
 use native.Mathlib.Omega.{arith}
 use borrow.Author.Rules.{rules}
 use Rattle.frame.proofs.Wrapped.{payload-wrapped}
-use Rattle.encode.specs.Payload.{payloadOf}
+use Rattle.encode.specs.Payload.{payload_of}
 use Rattle.encode.proofs.Frames.{too_long, too_small, framed}
 use Rattle.command.proofs.Sizes.{sizes}
 use Rattle.encode.proofs.Payloads.{payload-length}
@@ -53,7 +53,7 @@ returns-4 c =
     let payload-there = wrapped.before.before.before.before in
     let s = payload-there.before.before.before.before.before.before.before.before.before.args in
     let n = payload-length s.command s.hops.now in
-    let both = payload-wrapped (payloadOf s.command s.hops.now) (omega arith) (omega arith) (payload-there.pack-payload.ensures (omega arith)) (omega arith) wrapped.wrap.ensures in
+    let both = payload-wrapped (payload_of s.command s.hops.now) (omega arith) (omega arith) (payload-there.pack-payload.ensures (omega arith)) (omega arith) wrapped.wrap.ensures in
     framed s.command s.hops.now s.buf.now _ (omega arith) (omega arith) refl (c.answered.ensures ∙ both.0) both.1
 
 pub encode-spec : {M : Type 1} → statement M

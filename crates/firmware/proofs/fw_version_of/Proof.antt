@@ -1,5 +1,5 @@
 -- `firmware::fw_version_of` meets its contract.
-use Rattle.firmware.specs.Firmware.{flagOf}
+use Rattle.firmware.specs.Firmware.{flag_of}
 use borrow.Author.Rules.{rules}
 use Rattle.firmware.proofs.fw_version_of.Statement.{statement}
 use Rattle.firmware.proofs.fw_version_of.Tie as tie
@@ -18,11 +18,11 @@ returns c =
       minor = raw.minor;
       hw_name = raw.hw_name;
       uuid = raw.uuid;
-      pairing_done = flagOf raw.pairing_done;
+      pairing_done = flag_of raw.pairing_done;
       test_version_number = raw.test_version_number;
       hw_type = c.before.before.hw-type.ensures i;
       custom_config_num = raw.custom_config_num;
-      has_phase_filters = flagOf raw.has_phase_filters;
+      has_phase_filters = flag_of raw.has_phase_filters;
       qml_hw = c.qml-hw.ensures i;
       qml_app = raw.qml_app;
       nrf_flags = raw.nrf_flags;

@@ -2,9 +2,9 @@
 use mathlib.Core.Path.{sym, ap, ◌∙◌}
 use Prim.Native.Nat.{ℕ}
 use native.Mathlib.Omega.{arith}
-use Rattle.packer.specs.Numbers.{beAt, total}
+use Rattle.packer.specs.Numbers.{be_at, total}
 use Rattle.packer.proofs.Bytes.{byte_of, number_of}
-use Rattle.layout.specs.Layout.{rawOf, after_of, raws}
+use Rattle.layout.specs.Layout.{raw_of, after_of, raws}
 use Rattle.firmware.proofs.Ends.{name-raw, name-after}
 use borrow.Author.Rules.{rules}
 use Rattle.firmware.proofs.raw_fw_version_after.Statement.{statement}
@@ -47,7 +47,7 @@ word-at-requires : tie.Need-word-at-requires
 word-at-requires c κs = search rules
 
 returns : tie.Need-returns
-unfolding raws rawOf after_of total
+unfolding raws raw_of after_of total
 returns c =
     let mid = c.before.before.before.before in
     let uuid = mid.before.before.before.before.before in
@@ -69,7 +69,7 @@ returns c =
       qml_app = (c.before.before.byte-at7.ensures ∙ sym (byte_of 8 rest 12 6 (omega arith))) i;
       nrf_flags = (c.before.byte-at8.ensures ∙ sym (byte_of 8 rest 12 7 (omega arith))) i;
       fw_name = name-raw 39 rest 20 name.result.answer name.result.bytes name.ensures i;
-      hw_crc = (c.word_at.ensures ∙ ap (λ (at : ℕ). beAt rest at 4) end ∙ sym (number_of 4 rest _)) i;
+      hw_crc = (c.word_at.ensures ∙ ap (λ (at : ℕ). be_at rest at 4) end ∙ sym (number_of 4 rest _)) i;
     }
 
 pub raw-fw-version-after-spec : {M : Type 1} → statement M

@@ -4,8 +4,8 @@ use Prim.Native.Nat.{ℕ}
 use native.Mathlib.Omega.{arith}
 use Rattle.packer.specs.Numbers.{total}
 use Rattle.packer.proofs.Bytes.{byte_of}
-use Rattle.layout.specs.Layout.{name, rawOf, after_of, raws}
-use Rattle.firmware.specs.Firmware.{fwInfoOf}
+use Rattle.layout.specs.Layout.{name, raw_of, after_of, raws}
+use Rattle.firmware.specs.Firmware.{fw_info_of}
 use Rattle.firmware.proofs.Ends.{name-raw, name-after}
 use borrow.Author.Rules.{rules}
 use Rattle.firmware.proofs.unpack_fw_info.Statement.{statement}
@@ -30,7 +30,7 @@ byte-at-requires-3 : tie.Need-byte-at-requires-3
 byte-at-requires-3 c κs = search rules
 
 returns : tie.Need-returns
-unfolding fwInfoOf raws rawOf after_of total
+unfolding fw_info_of raws raw_of after_of total
 returns c =
     let end = c.before.before.before.before.before in
     let payload = end.before.before.before.before.args.payload.now in
@@ -42,7 +42,7 @@ returns c =
       minor = (c.before.byte-at2.ensures ∙ sym (byte_of 3 payload 1 1 (omega arith))) i;
       test_version_number = (c.byte-at3.ensures ∙ sym (byte_of 3 payload 1 2 (omega arith))) i;
       commit_hash = name-raw 47 payload 4 first.result.answer first.result.bytes first.ensures i;
-      user_commit_hash = (name-raw 47 payload _ second.result.answer second.result.bytes second.ensures ∙ ap (rawOf (name 47) payload) place) i;
+      user_commit_hash = (name-raw 47 payload _ second.result.answer second.result.bytes second.ensures ∙ ap (raw_of (name 47) payload) place) i;
     }
 
 pub unpack-fw-info-spec : {M : Type 1} → statement M

@@ -3,7 +3,7 @@ use mathlib.Core.Path.{sym, ap, ◌∙◌}
 use Prim.Native.Nat.{ℕ}
 use native.Mathlib.Omega.{arith}
 use lib.ListN.{get_or}
-use Rattle.packer.specs.Unpacking.{unpackedU16}
+use Rattle.packer.specs.Unpacking.{unpacked_u16}
 use Rattle.frame.proofs.Endings.{no-sum, after-sum, no_end, end-wrong, end-right}
 use borrow.Author.Rules.{rules}
 use Rattle.frame.proofs.finish.Statement.{statement}
@@ -22,7 +22,7 @@ returns : tie.Need-returns
 returns c =
     let expected = c.before.before in
     let args = expected.before.before.before.before.args in
-    let read = sym (ap unpackedU16 expected.expected.given.1) ∙ expected.before.before.unpack-u16.ensures in
+    let read = sym (ap unpacked_u16 expected.expected.given.1) ∙ expected.before.before.unpack-u16.ensures in
     let last = after-sum args.buf.now args.n _ read in
     no_end args.buf.now args.n _ read (omega (arith, last))
 
@@ -33,7 +33,7 @@ returns-2 : tie.Need-returns-2
 returns-2 c =
     let expected = c.before.before.before.before in
     let args = expected.before.before.before.before.args in
-    let read = sym (ap unpackedU16 expected.expected.given.1) ∙ expected.before.before.unpack-u16.ensures in
+    let read = sym (ap unpacked_u16 expected.expected.given.1) ∙ expected.before.before.unpack-u16.ensures in
     let last = after-sum args.buf.now args.n _ read in
     end-wrong args.buf.now args.n _ read (omega (arith, last))
     (λ e. c.if2.true (ap (λ (at : ℕ). get_or args.buf.now at 0) last ∙ e))
@@ -42,7 +42,7 @@ judge-sum-requires : tie.Need-judge-sum-requires
 judge-sum-requires c κs =
     let expected = c.before.before.before.before in
     let args = expected.before.before.before.before.args in
-    let read = sym (ap unpackedU16 expected.expected.given.1) ∙ expected.before.before.unpack-u16.ensures in
+    let read = sym (ap unpacked_u16 expected.expected.given.1) ∙ expected.before.before.unpack-u16.ensures in
     omega (arith, after-sum args.buf.now args.n _ read)
 
 enum-known-e : tie.Need-enum-known-e
@@ -52,14 +52,14 @@ returns-3 : tie.Need-returns-3
 returns-3 c =
     let expected = c.before.before.before.before.before in
     let args = expected.before.before.before.before.args in
-    let read = sym (ap unpackedU16 expected.expected.given.1) ∙ expected.before.before.unpack-u16.ensures in
+    let read = sym (ap unpacked_u16 expected.expected.given.1) ∙ expected.before.before.unpack-u16.ensures in
     let last = after-sum args.buf.now args.n _ read in
     c.judge-sum.ensures
     ∙ end-right args.buf.now args.n _ read (omega (arith, last))
     (ap (λ (at : ℕ). get_or args.buf.now at 0) (sym last) ∙ c.before.if2.false)
 
 returns-4 : tie.Need-returns-4
-returns-4 c = no-sum _ _ _ (sym (ap unpackedU16 c.before.e.given.1) ∙ c.before.before.before.unpack-u16.ensures)
+returns-4 c = no-sum _ _ _ (sym (ap unpacked_u16 c.before.e.given.1) ∙ c.before.before.before.unpack-u16.ensures)
 
 pub finish_spec : {M : Type 1} → statement M
 finish_spec =

@@ -1,7 +1,7 @@
 -- `layout::fields_end` meets its contract: the id picks the reader, or is none of the seven.
 use borrow.Author.Tests.{ne_eqb}
 use Rattle.layout.specs.Layout.{extent}
-use Rattle.layout.specs.Replies.{layoutIn, fieldsEnd}
+use Rattle.layout.specs.Replies.{layout_in, fields_end}
 use borrow.Author.Rules.{rules}
 use Rattle.layout.proofs.fields_end.Statement.{statement}
 use Rattle.layout.proofs.fields_end.Tie as tie
@@ -25,35 +25,35 @@ fw-info-end-requires : tie.Need-fw-info-end-requires
 fw-info-end-requires c κs = search rules
 
 returns : tie.Need-returns
-unfolding fieldsEnd layoutIn
+unfolding fields_end layout_in
 returns c = rw c.before.match.keys1 c.fw-version-end.ensures
 
 returns-2 : tie.Need-returns-2
-unfolding fieldsEnd layoutIn
+unfolding fields_end layout_in
 returns-2 c = rw c.before.match.keys2 c.get-values-end.ensures
 
 returns-3 : tie.Need-returns-3
-unfolding fieldsEnd layoutIn
+unfolding fields_end layout_in
 returns-3 c = rw c.before.match.keys3 c.masked-end.ensures
 
 returns-4 : tie.Need-returns-4
-unfolding fieldsEnd layoutIn
+unfolding fields_end layout_in
 returns-4 c = rw c.before.match.keys4 c.masked-end2.ensures
 
 returns-5 : tie.Need-returns-5
-unfolding fieldsEnd layoutIn
+unfolding fields_end layout_in
 returns-5 c = rw c.before.match.keys5 c.masked-end3.ensures
 
 returns-6 : tie.Need-returns-6
-unfolding fieldsEnd layoutIn extent
+unfolding fields_end layout_in extent
 returns-6 c = rw c.match.keys6
 
 returns-7 : tie.Need-returns-7
-unfolding fieldsEnd layoutIn
+unfolding fields_end layout_in
 returns-7 c = rw c.before.match.keys7 c.fw-info-end.ensures
 
 returns-8 : tie.Need-returns-8
-unfolding fieldsEnd layoutIn
+unfolding fields_end layout_in
 returns-8 c =
     let no = c.match.rest in
     simp (

@@ -1,8 +1,8 @@
 -- `layout::fw_info_end` meets its contract: each call goes on where the last one ended.
 use Rattle.refusals.specs.Refusals.{ok}
 use Rattle.packer.specs.Numbers.{total}
-use Rattle.layout.specs.Layout.{extentOf}
-use Rattle.layout.specs.Replies.{fwInfo}
+use Rattle.layout.specs.Layout.{extent_of}
+use Rattle.layout.specs.Replies.{fw_info_layout}
 use Rattle.layout.proofs.Steps.{from-extent}
 use borrow.Author.Rules.{rules}
 use Rattle.layout.proofs.fw_info_end.Statement.{statement}
@@ -18,14 +18,14 @@ skip-name-requires-2 : tie.Need-skip-name-requires-2
 skip-name-requires-2 c κs = search rules
 
 returns : tie.Need-returns
-unfolding extentOf total
+unfolding extent_of total
 returns c =
     rw (
       c.skip-name2.ensures,
       c.before.skip-name.ensures,
       c.before.before.skip.ensures,
     )
-    (from-extent fwInfo _ (ok _))
+    (from-extent fw_info_layout _ (ok _))
 
 pub fw-info-end-spec : {M : Type 1} → statement M
 fw-info-end-spec =

@@ -1,8 +1,8 @@
 -- `layout::fw_version_end` meets its contract: each call goes on where the last one ended.
 use Rattle.refusals.specs.Refusals.{ok}
 use Rattle.packer.specs.Numbers.{total}
-use Rattle.layout.specs.Layout.{extentOf}
-use Rattle.layout.specs.Replies.{fwVersion}
+use Rattle.layout.specs.Layout.{extent_of}
+use Rattle.layout.specs.Replies.{fw_version_layout}
 use Rattle.layout.proofs.Steps.{from-extent}
 use borrow.Author.Rules.{rules}
 use Rattle.layout.proofs.fw_version_end.Statement.{statement}
@@ -27,7 +27,7 @@ skip-requires-4 : tie.Need-skip-requires-4
 skip-requires-4 c κs = search rules
 
 returns : tie.Need-returns
-unfolding extentOf total
+unfolding extent_of total
 returns c =
     rw (
       c.skip4.ensures,
@@ -37,7 +37,7 @@ returns c =
       c.before.before.before.before.skip-name.ensures,
       c.before.before.before.before.before.skip.ensures,
     )
-    (from-extent fwVersion _ (ok _))
+    (from-extent fw_version_layout _ (ok _))
 
 pub fw-version-end-spec : {M : Type 1} → statement M
 fw-version-end-spec =

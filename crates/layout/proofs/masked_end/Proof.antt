@@ -1,6 +1,6 @@
 -- `layout::masked_end` meets its contract.
 use mathlib.Core.Path.{sym, ap, ◌∙◌}
-use Rattle.packer.specs.Unpacking.{unpackedU32}
+use Rattle.packer.specs.Unpacking.{unpacked_u32}
 use Rattle.layout.proofs.Steps.{mask-read, mask-lacking}
 use borrow.Author.Rules.{rules}
 use Rattle.layout.proofs.masked_end.Statement.{statement}
@@ -24,10 +24,10 @@ enum-known-e c = search rules
 returns : tie.Need-returns
 returns c =
     rw (c.skip.ensures, c.before.span.ensures)
-    (mask-read _ _ _ _ _ (sym (ap unpackedU32 c.before.before.before.mask.given.1) ∙ c.before.before.before.before.before.unpack-u32.ensures))
+    (mask-read _ _ _ _ _ (sym (ap unpacked_u32 c.before.before.before.mask.given.1) ∙ c.before.before.before.before.before.unpack-u32.ensures))
 
 returns-2 : tie.Need-returns-2
-returns-2 c = mask-lacking _ _ _ _ (sym (ap unpackedU32 c.before.e.given.1) ∙ c.before.before.before.unpack-u32.ensures)
+returns-2 c = mask-lacking _ _ _ _ (sym (ap unpacked_u32 c.before.e.given.1) ∙ c.before.before.before.unpack-u32.ensures)
 
 pub masked-end-spec : {M : Type 1} → statement M
 masked-end-spec =

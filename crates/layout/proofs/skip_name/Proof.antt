@@ -1,5 +1,5 @@
 -- `layout::skip_name` meets its contract: what the scan answers, after the place so far.
-use Rattle.layout.specs.Layout.{extentOf}
+use Rattle.layout.specs.Layout.{extent_of}
 use borrow.Author.Rules.{rules}
 use Rattle.layout.proofs.skip_name.Statement.{statement}
 use Rattle.layout.proofs.skip_name.Tie as tie
@@ -14,7 +14,7 @@ enum-known-so-far-2 : tie.Need-enum-known-so-far-2
 enum-known-so-far-2 c = search rules
 
 returns : tie.Need-returns
-unfolding extentOf
+unfolding extent_of
 returns c = rw c.before.before.so_far.given.1 c.find-nul.ensures
 
 returns-2 : tie.Need-returns-2

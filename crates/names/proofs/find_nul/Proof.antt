@@ -2,13 +2,13 @@
 use mathlib.Core.Path.{◌≡◌, refl, sym, ◌∙◌}
 use native.Mathlib.Omega.{arith}
 use lib.ListN.{drop}
-use Rattle.names.specs.Names.{nulWithin}
+use Rattle.names.specs.Names.{nul_within}
 use Rattle.names.proofs.Scanning.{scan-past-end, scan-nul, scan-on}
 use Rattle.names.proofs.find_nul.Statement.{statement}
 use Rattle.names.proofs.find_nul.Tie as tie
 
 abbrev invariant-loop : tie.invariant-loop
-invariant-loop buf pos room at₀ left₀ at left = nulWithin room (drop pos buf) pos ≡ nulWithin left (drop at buf) at
+invariant-loop buf pos room at₀ left₀ at left = nul_within room (drop pos buf) pos ≡ nul_within left (drop at buf) at
 
 abbrev decreases-loop : tie.decreases-loop
 decreases-loop buf pos room at₀ left₀ at left = left
@@ -46,7 +46,7 @@ loop-again c =
     ∙ scan-on _ _ _ c.before.before.before.loop-test.true c.before.before.if1.false c.if2.false
 
 returns-3 : tie.Need-returns-3 invariant-loop decreases-loop
-unfolding nulWithin
+unfolding nul_within
 returns-3 c =
     let full : c.before.loop.left ≡ 0 = omega arith in
     sym (rw full at c.before.loop.invariant)

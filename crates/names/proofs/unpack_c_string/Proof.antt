@@ -4,7 +4,7 @@ use mathlib.Core.Path.{sym, ap, ◌∙◌}
 use borrow.Author.Rules.{rules}
 use native.Mathlib.Omega.{arith}
 use lib.ListN.{length}
-use Rattle.names.specs.Names.{heldBytes}
+use Rattle.names.specs.Names.{held_bytes}
 use Rattle.refusals.specs.Refusals.{consumed}
 use Rattle.names.proofs.Places.{Ends, found-ends}
 use Rattle.names.proofs.Holding.{copied-held, copied-fits, name_of}
@@ -55,11 +55,11 @@ returns c =
     (c.before.before.copy.ensures.1 ∙ copied-held _ _ _ _ (found told) start.requires)
 
 returns-2 : tie.Need-returns-2
-unfolding heldBytes
+unfolding held_bytes
 returns-2 c =
     let start = c.before.before.before.before.before in
     name_of start.args.room start.args.buf.now start.args.pos _ _ c.before.before.find-nul.ensures
-    (start.requires ∙ ap (heldBytes _ _ _) (ap consumed (sym c.enum_told.given.1)))
+    (start.requires ∙ ap (held_bytes _ _ _) (ap consumed (sym c.enum_told.given.1)))
 
 pub unpack-c-string-spec : {M : Type 1} → statement M
 unpack-c-string-spec =

@@ -3,13 +3,13 @@ use mathlib.Core.Path.{◌≡◌, refl, sym, ◌∙◌}
 use Prim.Native.Nat.{◌-◌}
 use native.Mathlib.Omega.{arith}
 use lib.ListN.{length, drop}
-use Rattle.names.specs.Names.{allZero}
+use Rattle.names.specs.Names.{all_zero}
 use Rattle.names.proofs.Scanning.{other-than-zero, zero-on, zeros-past-end}
 use Rattle.names.proofs.zeros_from.Statement.{statement}
 use Rattle.names.proofs.zeros_from.Tie as tie
 
 abbrev invariant-loop : tie.invariant-loop
-invariant-loop held at k₀ k = allZero (drop at held) ≡ allZero (drop k held)
+invariant-loop held at k₀ k = all_zero (drop at held) ≡ all_zero (drop k held)
 
 abbrev decreases-loop : tie.decreases-loop
 decreases-loop held at k₀ k = length held - k

@@ -5,14 +5,14 @@ use native.Mathlib.Omega.{arith}
 use borrow.Author.Rules.{rules}
 use lib.ListN.{length}
 use lib.Seq.{sets}
-use Rattle.packer.specs.Numbers.{bigEndian}
+use Rattle.packer.specs.Numbers.{big_endian}
 use Rattle.packer.proofs.Writes.{digits-length, turn, stored}
 use Rattle.packer.proofs.put_be.Statement.{statement}
 use Rattle.packer.proofs.put_be.Tie as tie
 
 abbrev invariant-loop : tie.invariant-loop
 invariant-loop buf₀ pos width number k₀ rest₀ buf k rest =
-    (k ≤ width) × (length buf ≡ length buf₀) × (sets buf pos (bigEndian k rest) ≡ sets buf₀ pos (bigEndian width number))
+    (k ≤ width) × (length buf ≡ length buf₀) × (sets buf pos (big_endian k rest) ≡ sets buf₀ pos (big_endian width number))
 
 abbrev decreases-loop : tie.decreases-loop
 decreases-loop buf₀ pos width number k₀ rest₀ buf k rest = k
@@ -46,11 +46,11 @@ same_length : tie.Need-same-length invariant-loop decreases-loop
 same_length c = search rules
 
 returns : tie.Need-returns invariant-loop decreases-loop
-unfolding bigEndian
+unfolding big_endian
 returns c =
     let z : c.before.loop.k ≡ 0 = omega arith in
     (rw z at c.before.loop.invariant.2)
-    ∙ stored (bigEndian c.before.before.args.width c.before.before.args.number) _ _
+    ∙ stored (big_endian c.before.before.args.width c.before.before.args.number) _ _
     (omega (arith, digits-length c.before.before.args.width c.before.before.args.number))
 
 pub put-be-spec : {M : Type 1} → statement M

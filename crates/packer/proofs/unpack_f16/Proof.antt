@@ -1,8 +1,8 @@
 -- `packer::unpack_f16` meets its contract.
 use mathlib.Core.Path.{sym, ap, ◌∙◌}
 use lib.IntN.{ℤ}
-use Rattle.floats.specs.Numbers.{overScale}
-use Rattle.packer.specs.Unpacking.{unpackedI16}
+use Rattle.floats.specs.Numbers.{over_scale}
+use Rattle.packer.specs.Unpacking.{unpacked_i16}
 use Rattle.packer.proofs.Complement.{widened, widened-fits}
 use Rattle.packer.proofs.Places.{made, not_made}
 use borrow.Author.Rules.{rules}
@@ -26,12 +26,12 @@ enum-known-e c = search rules
 
 returns : tie.Need-returns
 returns c =
-    made (λ (raw : ℤ). overScale raw c.before.before.before.before.before.before.args.scale) _ _ _ _ _ _ _
-    (c.scaled.ensures ∙ ap (λ (raw : ℤ). overScale raw c.before.before.before.before.before.before.args.scale) (widened _ (record { sfits = c.before.known-told.given.0.1 })))
-    (sym (ap unpackedI16 c.before.before.raw.given.1) ∙ c.before.before.before.before.unpack-i16.ensures)
+    made (λ (raw : ℤ). over_scale raw c.before.before.before.before.before.before.args.scale) _ _ _ _ _ _ _
+    (c.scaled.ensures ∙ ap (λ (raw : ℤ). over_scale raw c.before.before.before.before.before.before.args.scale) (widened _ (record { sfits = c.before.known-told.given.0.1 })))
+    (sym (ap unpacked_i16 c.before.before.raw.given.1) ∙ c.before.before.before.before.unpack-i16.ensures)
 
 returns-2 : tie.Need-returns-2
-returns-2 c = not_made (λ (raw : ℤ). overScale raw c.before.before.before.before.before.args.scale) _ _ _ _ _ (sym (ap unpackedI16 c.before.e.given.1) ∙ c.before.before.before.unpack-i16.ensures)
+returns-2 c = not_made (λ (raw : ℤ). over_scale raw c.before.before.before.before.before.args.scale) _ _ _ _ _ (sym (ap unpacked_i16 c.before.e.given.1) ∙ c.before.before.before.unpack-i16.ensures)
 
 pub unpack-f16-spec : {M : Type 1} → statement M
 unpack-f16-spec =

@@ -1,7 +1,7 @@
 -- `packer::unpack_f32_auto` meets its contract.
 use mathlib.Core.Path.{sym, ap, ◌∙◌}
 use lib.Ieee.{binary32, of_bits}
-use Rattle.packer.specs.Unpacking.{unpackedU32}
+use Rattle.packer.specs.Unpacking.{unpacked_u32}
 use Rattle.packer.proofs.Places.{made, not_made}
 use borrow.Author.Rules.{rules}
 use Rattle.packer.proofs.unpack_f32_auto.Statement.{statement}
@@ -22,10 +22,10 @@ enum-known-e c = search rules
 returns : tie.Need-returns
 returns c =
     made (of_bits binary32) _ _ _ _ _ _ _ c.f32-from-bits.ensures
-    (sym (ap unpackedU32 c.before.before.bits.given.1) ∙ c.before.before.before.before.unpack-u32.ensures)
+    (sym (ap unpacked_u32 c.before.before.bits.given.1) ∙ c.before.before.before.before.unpack-u32.ensures)
 
 returns-2 : tie.Need-returns-2
-returns-2 c = not_made (of_bits binary32) _ _ _ _ _ (sym (ap unpackedU32 c.before.e.given.1) ∙ c.before.before.before.unpack-u32.ensures)
+returns-2 c = not_made (of_bits binary32) _ _ _ _ _ (sym (ap unpacked_u32 c.before.e.given.1) ∙ c.before.before.before.unpack-u32.ensures)
 
 pub unpack-f32-auto-spec : {M : Type 1} → statement M
 unpack-f32-auto-spec =

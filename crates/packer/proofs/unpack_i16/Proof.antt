@@ -4,7 +4,7 @@ use Rattle.packer.proofs.Places.{made, not_made}
 use native.Mathlib.Omega.{arith}
 use Rattle.packer.proofs.Complement.{called-i16, fits-i16}
 use Rattle.packer.specs.Numbers.{signed_of}
-use Rattle.packer.specs.Unpacking.{unpackedU32, NumberBelow}
+use Rattle.packer.specs.Unpacking.{unpacked_u32, NumberBelow}
 use borrow.Author.Rules.{rules}
 use Rattle.packer.proofs.unpack_i16.Statement.{statement}
 use Rattle.packer.proofs.unpack_i16.Tie as tie
@@ -27,10 +27,10 @@ enum-known-e c = search rules
 returns : tie.Need-returns
 returns c =
     made (signed_of 65536) _ _ _ _ _ _ _ (called-i16 _ _ c.signed.type-inv (subst (NumberBelow 65536) c.before.before.number.given.1 c.before.before.before.before.unpack-be.ensures.1) c.signed.ensures)
-    (sym (ap unpackedU32 c.before.before.number.given.1) ∙ c.before.before.before.before.unpack-be.ensures.0)
+    (sym (ap unpacked_u32 c.before.before.number.given.1) ∙ c.before.before.before.before.unpack-be.ensures.0)
 
 returns-2 : tie.Need-returns-2
-returns-2 c = not_made (signed_of 65536) _ _ _ _ _ (sym (ap unpackedU32 c.before.e.given.1) ∙ c.before.before.before.unpack-be.ensures.0)
+returns-2 c = not_made (signed_of 65536) _ _ _ _ _ (sym (ap unpacked_u32 c.before.e.given.1) ∙ c.before.before.before.unpack-be.ensures.0)
 
 pub unpack-i16-spec : {M : Type 1} → statement M
 unpack-i16-spec =

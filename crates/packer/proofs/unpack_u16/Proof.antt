@@ -1,6 +1,6 @@
 -- `packer::unpack_u16` meets its contract: the number read, narrowed.
 use mathlib.Core.Path.{sym, ap, subst, ◌∙◌}
-use Rattle.packer.specs.Unpacking.{unpackedU32, NumberBelow}
+use Rattle.packer.specs.Unpacking.{unpacked_u32, NumberBelow}
 use borrow.Author.Rules.{rules}
 use Rattle.packer.proofs.unpack_u16.Statement.{statement}
 use Rattle.packer.proofs.unpack_u16.Tie as tie
@@ -18,10 +18,10 @@ enum-known-e : tie.Need-enum-known-e
 enum-known-e c = search rules
 
 returns : tie.Need-returns
-returns c = sym (ap unpackedU32 c.before.number.given.1) ∙ c.before.before.before.unpack-be.ensures.0
+returns c = sym (ap unpacked_u32 c.before.number.given.1) ∙ c.before.before.before.unpack-be.ensures.0
 
 returns-2 : tie.Need-returns-2
-returns-2 c = sym (ap unpackedU32 c.before.e.given.1) ∙ c.before.before.before.unpack-be.ensures.0
+returns-2 c = sym (ap unpacked_u32 c.before.e.given.1) ∙ c.before.before.before.unpack-be.ensures.0
 
 pub unpack-u16-spec : {M : Type 1} → statement M
 unpack-u16-spec =

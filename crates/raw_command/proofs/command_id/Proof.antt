@@ -1,14 +1,14 @@
 -- `raw_command::command_id` meets its contract: a test for each id, in the order of `CommandId`.
 use borrow.Author.Rules.{rules}
 use borrow.Author.Tests.{ne_eqb}
-use Rattle.raw_command.specs.Reading.{idAmong}
+use Rattle.raw_command.specs.Reading.{id_among}
 use Rattle.raw_command.proofs.Ids.{named}
 use Rattle.raw_command.proofs.command_id.Statement.{statement}
 use Rattle.raw_command.proofs.command_id.Tie as tie
 
 -- no id is left
 unknown : tie.Need-returns-21
-unfolding idAmong
+unfolding id_among
 unknown c =
     rw (
       ne_eqb _ _ c.if20.false,

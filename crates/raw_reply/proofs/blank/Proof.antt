@@ -1,11 +1,11 @@
 -- `raw_reply::blank` meets its contract.
 use borrow.Author.Rules.{rules}
-use Rattle.raw_reply.specs.RawReply.{blankRaw}
+use Rattle.raw_reply.specs.RawReply.{blank_raw}
 use Rattle.raw_reply.proofs.blank.Statement.{statement}
 use Rattle.raw_reply.proofs.blank.Tie as tie
 
 returns : tie.Need-returns
-unfolding blankRaw
+unfolding blank_raw
 returns c =
     λ i. record {
       kind = c.before.before.before.before.before.args.kind;

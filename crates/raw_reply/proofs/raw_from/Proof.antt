@@ -2,40 +2,40 @@
 use mathlib.Core.Path.{sym, ◌∙◌}
 use borrow.Author.Rules.{rules}
 use borrow.Author.Tests.{ne_eqb}
-use Rattle.raw_reply.specs.RawReply.{rawAs, rawReplyOf}
+use Rattle.raw_reply.specs.RawReply.{raw_as, raw_reply_of}
 use Rattle.raw_reply.proofs.raw_from.Statement.{statement}
 use Rattle.raw_reply.proofs.raw_from.Tie as tie
 
 returns : tie.Need-returns
-unfolding rawReplyOf
+unfolding raw_reply_of
 returns c = rw (sym c.before.before.byte_at.ensures ∙ c.before.match.keys1) c.unpack-fw-version.ensures
 
 returns-2 : tie.Need-returns-2
-unfolding rawReplyOf
+unfolding raw_reply_of
 returns-2 c = rw (sym c.before.before.byte_at.ensures ∙ c.before.match.keys2) c.unpack-get-values.ensures
 
 returns-3 : tie.Need-returns-3
-unfolding rawReplyOf
+unfolding raw_reply_of
 returns-3 c = rw (sym c.before.before.byte_at.ensures ∙ c.before.match.keys3) c.unpack-get-values-selective.ensures
 
 returns-4 : tie.Need-returns-4
-unfolding rawReplyOf
+unfolding raw_reply_of
 returns-4 c = rw (sym c.before.before.byte_at.ensures ∙ c.before.match.keys4) c.unpack-get-values-setup-selective.ensures
 
 returns-5 : tie.Need-returns-5
-unfolding rawReplyOf
+unfolding raw_reply_of
 returns-5 c = rw (sym c.before.before.byte_at.ensures ∙ c.before.match.keys5) c.unpack-get-stats.ensures
 
 returns-6 : tie.Need-returns-6
-unfolding rawReplyOf rawAs
+unfolding raw_reply_of raw_as
 returns-6 c = rw (sym c.before.before.byte_at.ensures ∙ c.before.match.keys6) c.blank.ensures
 
 returns-7 : tie.Need-returns-7
-unfolding rawReplyOf
+unfolding raw_reply_of
 returns-7 c = rw (sym c.before.before.byte_at.ensures ∙ c.before.match.keys7) c.unpack-fw-info.ensures
 
 returns-8 : tie.Need-returns-8
-unfolding rawReplyOf
+unfolding raw_reply_of
 returns-8 c =
     let no = c.before.match.rest in
     let id = sym c.before.before.byte_at.ensures in

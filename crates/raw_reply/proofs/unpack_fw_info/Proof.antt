@@ -1,12 +1,12 @@
 -- `raw_reply::unpack_fw_info` meets its contract.
 use borrow.Author.Rules.{rules}
-use Rattle.firmware.specs.Firmware.{fwInfoOf}
-use Rattle.raw_reply.specs.RawReply.{blankRaw, rawAs}
+use Rattle.firmware.specs.Firmware.{fw_info_of}
+use Rattle.raw_reply.specs.RawReply.{blank_raw, raw_as}
 use Rattle.raw_reply.proofs.unpack_fw_info.Statement.{statement}
 use Rattle.raw_reply.proofs.unpack_fw_info.Tie as tie
 
 returns : tie.Need-returns
-unfolding blankRaw rawAs fwInfoOf
+unfolding blank_raw raw_as fw_info_of
 returns c =
     λ i. record {
       kind = (c.before.blank.ensures i).kind;

@@ -1,12 +1,12 @@
 -- `raw_reply::unpack_fw_version` meets its contract.
 use borrow.Author.Rules.{rules}
-use Rattle.firmware.specs.Firmware.{rawVersionOf}
-use Rattle.raw_reply.specs.RawReply.{blankRaw, rawAs}
+use Rattle.firmware.specs.Firmware.{raw_version_of}
+use Rattle.raw_reply.specs.RawReply.{blank_raw, raw_as}
 use Rattle.raw_reply.proofs.unpack_fw_version.Statement.{statement}
 use Rattle.raw_reply.proofs.unpack_fw_version.Tie as tie
 
 returns : tie.Need-returns
-unfolding blankRaw rawAs rawVersionOf
+unfolding blank_raw raw_as raw_version_of
 returns c =
     λ i. record {
       kind = (c.before.blank.ensures i).kind;

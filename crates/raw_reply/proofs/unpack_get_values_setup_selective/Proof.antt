@@ -2,24 +2,24 @@
 use mathlib.Core.Path.{ap, ◌∙◌}
 use Prim.Native.Nat.{ℕ}
 use borrow.Author.Rules.{rules}
-use Rattle.packer.specs.Numbers.{numbersAt}
-use Rattle.tables.specs.Tables.{widths, setupTable}
-use Rattle.layout.specs.Layout.{rawOf, raws}
-use Rattle.raw_telemetry.specs.Records.{rawSetupValuesOf}
+use Rattle.packer.specs.Numbers.{numbers_at}
+use Rattle.tables.specs.Tables.{widths, setup_table}
+use Rattle.layout.specs.Layout.{raw_of, raws}
+use Rattle.raw_telemetry.specs.Records.{raw_setup_values_of}
 use Rattle.raw_telemetry.proofs.Padded.{setup-padded}
-use Rattle.raw_reply.specs.RawReply.{blankRaw, rawAs}
+use Rattle.raw_reply.specs.RawReply.{blank_raw, raw_as}
 use Rattle.raw_reply.proofs.unpack_get_values_setup_selective.Statement.{statement}
 use Rattle.raw_reply.proofs.unpack_get_values_setup_selective.Tie as tie
 
 returns : tie.Need-returns
-unfolding blankRaw rawAs raws rawOf
+unfolding blank_raw raw_as raws raw_of
 returns c =
     let payload = c.before.before.before.before.before.args.payload.now in
     let read = c.before.before in
     let mask = read.before.word_at.result in
     let numbers =
-    ap (rawSetupValuesOf mask) read.unpack-fields.ensures ∙ setup-padded mask (numbersAt (widths mask setupTable) payload 5)
-    ∙ ap (λ (m : ℕ). rawSetupValuesOf m (numbersAt (widths m setupTable) payload 5)) read.before.word_at.ensures in
+    ap (raw_setup_values_of mask) read.unpack-fields.ensures ∙ setup-padded mask (numbers_at (widths mask setup_table) payload 5)
+    ∙ ap (λ (m : ℕ). raw_setup_values_of m (numbers_at (widths m setup_table) payload 5)) read.before.word_at.ensures in
     λ i. record {
       kind = (c.before.blank.ensures i).kind;
       values = (c.before.blank.ensures i).values;

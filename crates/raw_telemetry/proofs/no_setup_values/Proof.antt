@@ -2,12 +2,12 @@
 use mathlib.Core.Path.{refl}
 use Rattle.packer.specs.Numbers.{signed_of}
 use Rattle.raw_telemetry.specs.Rows.{rows_from}
-use Rattle.raw_telemetry.specs.Records.{rawSetupValuesOf, noRawSetupValues}
+use Rattle.raw_telemetry.specs.Records.{raw_setup_values_of, no_raw_setup_values}
 use Rattle.raw_telemetry.proofs.no_setup_values.Statement.{statement}
 use Rattle.raw_telemetry.proofs.no_setup_values.Tie as tie
 
 returns : tie.Need-returns
-unfolding noRawSetupValues rawSetupValuesOf rows_from signed_of
+unfolding no_raw_setup_values raw_setup_values_of rows_from signed_of
 returns c = refl
 
 pub no-setup-values-spec : {M : Type 1} → statement M

@@ -2,12 +2,12 @@
 use mathlib.Core.Path.{refl}
 use Rattle.packer.specs.Numbers.{signed_of}
 use Rattle.raw_telemetry.specs.Rows.{rows_from}
-use Rattle.raw_telemetry.specs.Records.{rawValuesOf, noRawValues}
+use Rattle.raw_telemetry.specs.Records.{raw_values_of, no_raw_values}
 use Rattle.raw_telemetry.proofs.no_values.Statement.{statement}
 use Rattle.raw_telemetry.proofs.no_values.Tie as tie
 
 returns : tie.Need-returns
-unfolding noRawValues rawValuesOf rows_from signed_of
+unfolding no_raw_values raw_values_of rows_from signed_of
 returns c = refl
 
 pub no-values-spec : {M : Type 1} → statement M

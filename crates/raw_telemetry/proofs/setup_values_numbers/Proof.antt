@@ -1,13 +1,13 @@
 -- `raw_telemetry::setup_values_numbers` meets its contract: the number of each row.
 use mathlib.Core.List.{[], ◌∷◌}
 use Rattle.tables.specs.Rows.{padded}
-use Rattle.raw_telemetry.specs.Rows.{numbersOf}
+use Rattle.raw_telemetry.specs.Rows.{numbers_of}
 use Rattle.raw_telemetry.proofs.Needs.{free, sent-half, sent_word}
 use Rattle.raw_telemetry.proofs.setup_values_numbers.Statement.{statement}
 use Rattle.raw_telemetry.proofs.setup_values_numbers.Tie as tie
 
 returns : tie.Need-returns
-unfolding padded numbersOf
+unfolding padded numbers_of
 returns c =
     let told = c.before.before.before.before.before.before.before.before.before.before.before.before.before.before.before.before.before.before.before.before.before.before.before.before.before.before.before.before.before.before.before.before.before.before.before.before.struct_told.given in
     let v = c.before.before.before.before.before.before.before.before.before.before.before.before.before.before.before.before.before.before.before.before.before.before.before.before.before.before.before.before.before.before.before.before.before.before.before.before.before.args.values in

@@ -2,13 +2,13 @@
 use lib.ListN.{get_or}
 use Rattle.packer.proofs.Complement.{called-i32}
 use Rattle.raw_telemetry.specs.Rows.{rows_from}
-use Rattle.raw_telemetry.specs.Records.{rawSetupValuesOf}
+use Rattle.raw_telemetry.specs.Records.{raw_setup_values_of}
 use Rattle.raw_telemetry.proofs.Needs.{row, free, called-half}
 use Rattle.raw_telemetry.proofs.setup_values_of.Statement.{statement}
 use Rattle.raw_telemetry.proofs.setup_values_of.Tie as tie
 
 returns : tie.Need-returns
-unfolding rawSetupValuesOf rows_from
+unfolding raw_setup_values_of rows_from
 returns c =
     λ i.
     record {

@@ -1,12 +1,12 @@
 -- `raw_telemetry::stats_numbers` meets its contract: the number of each row.
 use mathlib.Core.List.{[], ◌∷◌}
 use Rattle.tables.specs.Rows.{padded}
-use Rattle.raw_telemetry.specs.Rows.{numbersOf}
+use Rattle.raw_telemetry.specs.Rows.{numbers_of}
 use Rattle.raw_telemetry.proofs.stats_numbers.Statement.{statement}
 use Rattle.raw_telemetry.proofs.stats_numbers.Tie as tie
 
 returns : tie.Need-returns
-unfolding padded numbersOf
+unfolding padded numbers_of
 returns c =
     λ i.
     c.args.stats.speed_avg

@@ -1,13 +1,13 @@
 -- `raw_telemetry::stats_of` meets its contract: each field is its row's number, read.
 use lib.ListN.{get_or}
 use Rattle.raw_telemetry.specs.Rows.{rows_from}
-use Rattle.raw_telemetry.specs.Records.{rawStatsOf}
+use Rattle.raw_telemetry.specs.Records.{raw_stats_of}
 use Rattle.raw_telemetry.proofs.Needs.{row}
 use Rattle.raw_telemetry.proofs.stats_of.Statement.{statement}
 use Rattle.raw_telemetry.proofs.stats_of.Tie as tie
 
 returns : tie.Need-returns
-unfolding rawStatsOf rows_from
+unfolding raw_stats_of rows_from
 returns c =
     λ i.
     record {

@@ -1,13 +1,13 @@
 -- `raw_telemetry::values_of` meets its contract: each field is its row's number, read.
 use Rattle.packer.proofs.Complement.{called-i32}
 use Rattle.raw_telemetry.specs.Rows.{rows_from}
-use Rattle.raw_telemetry.specs.Records.{rawValuesOf}
+use Rattle.raw_telemetry.specs.Records.{raw_values_of}
 use Rattle.raw_telemetry.proofs.Needs.{row, free, called-half}
 use Rattle.raw_telemetry.proofs.values_of.Statement.{statement}
 use Rattle.raw_telemetry.proofs.values_of.Tie as tie
 
 returns : tie.Need-returns
-unfolding rawValuesOf rows_from
+unfolding raw_values_of rows_from
 returns c =
     λ i.
     record {

@@ -1,5 +1,5 @@
 -- `reply::blank` meets its contract.
-use Rattle.reply.specs.Reply.{blankOf}
+use Rattle.reply.specs.Reply.{blank_of}
 use borrow.Author.Rules.{rules}
 use Rattle.reply.proofs.blank.Statement.{statement}
 use Rattle.reply.proofs.blank.Tie as tie
@@ -20,7 +20,7 @@ no-fw-info-requires : tie.Need-no-fw-info-requires
 no-fw-info-requires c κs = search rules
 
 returns : tie.Need-returns
-unfolding blankOf
+unfolding blank_of
 returns c =
     λ i. record {
       kind = c.before.before.before.before.before.args.kind;

@@ -2,8 +2,8 @@
 use mathlib.Core.Path.{sym, ap, ◌∙◌}
 use native.Mathlib.Omega.{arith}
 use Rattle.frame.proofs.Places.{payload-is}
-use Rattle.reply.specs.Reply.{replyOf}
-use Rattle.reply.specs.Decode.{replyIn}
+use Rattle.reply.specs.Reply.{reply_of}
+use Rattle.reply.specs.Decode.{reply_in}
 use Rattle.reply.proofs.Answers.{part_none, part-short, part-whole}
 use borrow.Author.Rules.{rules}
 use Rattle.reply.proofs.reply_in.Statement.{statement}
@@ -22,8 +22,8 @@ unpack-from-requires : tie.Need-unpack-from-requires
 unpack-from-requires c κs = search rules
 
 returns : tie.Need-returns
-unfolding replyIn
-returns c = c.unpack-from.ensures ∙ ap replyOf (part_none _ _ c.before.before.if1.true ∙ sym (payload-is _))
+unfolding reply_in
+returns c = c.unpack-from.ensures ∙ ap reply_of (part_none _ _ c.before.before.if1.true ∙ sym (payload-is _))
 
 shared-slice-read-end : tie.Need-shared-slice-read-end
 shared-slice-read-end c = search rules
@@ -47,8 +47,8 @@ unpack-from-requires-2 : tie.Need-unpack-from-requires-2
 unpack-from-requires-2 c κs = search rules
 
 returns-2 : tie.Need-returns-2
-unfolding replyIn
-returns-2 c = c.unpack-from2.ensures ∙ ap replyOf (part-short _ _ c.before.before.if2.true ∙ sym (payload-is _))
+unfolding reply_in
+returns-2 c = c.unpack-from2.ensures ∙ ap reply_of (part-short _ _ c.before.before.if2.true ∙ sym (payload-is _))
 
 sub-unpack-from-3 : tie.Need-overflow-sub-unpack-from-3
 sub-unpack-from-3 c = search rules
@@ -63,8 +63,8 @@ unpack-from-requires-3 : tie.Need-unpack-from-requires-3
 unpack-from-requires-3 c κs = search rules
 
 returns-3 : tie.Need-returns-3
-unfolding replyIn
-returns-3 c = c.unpack-from3.ensures ∙ ap replyOf (part-whole _ _ ∙ sym (payload-is _))
+unfolding reply_in
+returns-3 c = c.unpack-from3.ensures ∙ ap reply_of (part-whole _ _ ∙ sym (payload-is _))
 
 pub reply-in-spec : {M : Type 1} → statement M
 reply-in-spec =

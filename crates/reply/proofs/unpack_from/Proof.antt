@@ -1,7 +1,7 @@
 -- `reply::unpack_from` meets its contract.
 use mathlib.Core.Path.{sym, ◌∙◌}
 use borrow.Author.Tests.{ne_eqb}
-use Rattle.reply.specs.Reply.{replyOf}
+use Rattle.reply.specs.Reply.{reply_of}
 use borrow.Author.Rules.{rules}
 use Rattle.reply.proofs.unpack_from.Statement.{statement}
 use Rattle.reply.proofs.unpack_from.Tie as tie
@@ -34,35 +34,35 @@ empty-requires : tie.Need-empty-requires
 empty-requires c κs = search rules
 
 returns : tie.Need-returns
-unfolding replyOf
+unfolding reply_of
 returns c = rw (sym c.before.before.byte_at.ensures ∙ c.before.match.keys1) c.unpack-fw-version.ensures
 
 returns-2 : tie.Need-returns-2
-unfolding replyOf
+unfolding reply_of
 returns-2 c = rw (sym c.before.before.byte_at.ensures ∙ c.before.match.keys2) c.unpack-get-values.ensures
 
 returns-3 : tie.Need-returns-3
-unfolding replyOf
+unfolding reply_of
 returns-3 c = rw (sym c.before.before.byte_at.ensures ∙ c.before.match.keys3) c.unpack-get-values-selective.ensures
 
 returns-4 : tie.Need-returns-4
-unfolding replyOf
+unfolding reply_of
 returns-4 c = rw (sym c.before.before.byte_at.ensures ∙ c.before.match.keys4) c.unpack-get-values-setup-selective.ensures
 
 returns-5 : tie.Need-returns-5
-unfolding replyOf
+unfolding reply_of
 returns-5 c = rw (sym c.before.before.byte_at.ensures ∙ c.before.match.keys5) c.unpack-get-stats.ensures
 
 returns-6 : tie.Need-returns-6
-unfolding replyOf
+unfolding reply_of
 returns-6 c = rw (sym c.before.before.byte_at.ensures ∙ c.before.match.keys6) c.blank.ensures
 
 returns-7 : tie.Need-returns-7
-unfolding replyOf
+unfolding reply_of
 returns-7 c = rw (sym c.before.before.byte_at.ensures ∙ c.before.match.keys7) c.unpack-fw-info.ensures
 
 returns-8 : tie.Need-returns-8
-unfolding replyOf
+unfolding reply_of
 returns-8 c =
     let no = c.before.match.rest in
     let id = sym c.before.before.byte_at.ensures in

@@ -1,5 +1,5 @@
 -- `reply::unpack_fw_info` meets its contract.
-use Rattle.reply.specs.Reply.{blankOf, fwInfoReplyOf}
+use Rattle.reply.specs.Reply.{blank_of, fw_info_reply_of}
 use borrow.Author.Rules.{rules}
 use Rattle.reply.proofs.unpack_fw_info.Statement.{statement}
 use Rattle.reply.proofs.unpack_fw_info.Tie as tie
@@ -11,7 +11,7 @@ unpack-fw-info-requires : tie.Need-unpack-fw-info-requires
 unpack-fw-info-requires c κs = search rules
 
 returns : tie.Need-returns
-unfolding blankOf fwInfoReplyOf
+unfolding blank_of fw_info_reply_of
 returns c =
     λ i. record {
       kind = (c.before.blank.ensures i).kind;

@@ -1,5 +1,5 @@
 -- `reply::unpack_fw_version` meets its contract.
-use Rattle.reply.specs.Reply.{blankOf, fwVersionReplyOf}
+use Rattle.reply.specs.Reply.{blank_of, fw_version_reply_of}
 use borrow.Author.Rules.{rules}
 use Rattle.reply.proofs.unpack_fw_version.Statement.{statement}
 use Rattle.reply.proofs.unpack_fw_version.Tie as tie
@@ -11,7 +11,7 @@ unpack-fw-version-requires : tie.Need-unpack-fw-version-requires
 unpack-fw-version-requires c κs = search rules
 
 returns : tie.Need-returns
-unfolding blankOf fwVersionReplyOf
+unfolding blank_of fw_version_reply_of
 returns c =
     λ i. record {
       kind = (c.before.blank.ensures i).kind;

@@ -1,12 +1,12 @@
 -- `reply::unpack_get_values_setup_selective` meets its contract.
 use mathlib.Core.Path.{ap, ◌∙◌}
 use Prim.Native.Nat.{ℕ}
-use Rattle.packer.specs.Numbers.{numbersAt}
-use Rattle.tables.specs.Tables.{widths, setupTable}
-use Rattle.telemetry.specs.Telemetry.{setupValuesOf}
+use Rattle.packer.specs.Numbers.{numbers_at}
+use Rattle.tables.specs.Tables.{widths, setup_table}
+use Rattle.telemetry.specs.Telemetry.{setup_values_of}
 use Rattle.telemetry.proofs.Padded.{setup-padded}
-use Rattle.layout.specs.Layout.{rawOf, raws}
-use Rattle.reply.specs.Reply.{blankOf, getValuesSetupSelectiveOf}
+use Rattle.layout.specs.Layout.{raw_of, raws}
+use Rattle.reply.specs.Reply.{blank_of, get_values_setup_selective_of}
 use borrow.Author.Rules.{rules}
 use Rattle.reply.proofs.unpack_get_values_setup_selective.Statement.{statement}
 use Rattle.reply.proofs.unpack_get_values_setup_selective.Tie as tie
@@ -24,14 +24,14 @@ setup-values-of-requires : tie.Need-setup-values-of-requires
 setup-values-of-requires c κs = search rules
 
 returns : tie.Need-returns
-unfolding blankOf getValuesSetupSelectiveOf raws rawOf
+unfolding blank_of get_values_setup_selective_of raws raw_of
 returns c =
     let payload = c.before.before.before.before.before.args.payload.now in
     let read = c.before.before in
     let mask = read.before.word_at.result in
     let numbers =
-    ap (setupValuesOf mask) read.unpack-fields.ensures ∙ setup-padded mask (numbersAt (widths mask setupTable) payload 5)
-    ∙ ap (λ (m : ℕ). setupValuesOf m (numbersAt (widths m setupTable) payload 5)) read.before.word_at.ensures in
+    ap (setup_values_of mask) read.unpack-fields.ensures ∙ setup-padded mask (numbers_at (widths mask setup_table) payload 5)
+    ∙ ap (λ (m : ℕ). setup_values_of m (numbers_at (widths m setup_table) payload 5)) read.before.word_at.ensures in
     λ i. record {
       kind = (c.before.blank.ensures i).kind;
       values = (c.before.blank.ensures i).values;

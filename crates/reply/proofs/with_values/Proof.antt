@@ -1,8 +1,8 @@
 -- `reply::with_values` meets its contract.
 use mathlib.Core.Path.{ap, ◌∙◌}
-use Rattle.telemetry.specs.Telemetry.{valuesOf}
+use Rattle.telemetry.specs.Telemetry.{values_of}
 use Rattle.telemetry.proofs.Padded.{values-padded}
-use Rattle.reply.specs.Reply.{blankOf}
+use Rattle.reply.specs.Reply.{blank_of}
 use borrow.Author.Rules.{rules}
 use Rattle.reply.proofs.with_values.Statement.{statement}
 use Rattle.reply.proofs.with_values.Tie as tie
@@ -17,11 +17,11 @@ values-of-requires : tie.Need-values-of-requires
 values-of-requires c κs = search rules
 
 returns : tie.Need-returns
-unfolding blankOf
+unfolding blank_of
 returns c =
     λ i. record {
       kind = (c.before.blank.ensures i).kind;
-      values = (c.values_of.ensures ∙ ap (valuesOf _) c.before.before.unpack-fields.ensures ∙ values-padded _ _) i;
+      values = (c.values_of.ensures ∙ ap (values_of _) c.before.before.unpack-fields.ensures ∙ values-padded _ _) i;
       setup_values = (c.before.blank.ensures i).setup_values;
       stats = (c.before.blank.ensures i).stats;
       fw_version = (c.before.blank.ensures i).fw_version;

@@ -3,7 +3,7 @@ use borrow.Author.Rules.{rules}
 use mathlib.Core.Path.{◌≡◌, sym}
 use native.Mathlib.Omega.{arith}
 use lib.ListN.{length}
-use Rattle.format.specs.Format.{hashRoom}
+use Rattle.format.specs.Format.{hash_room}
 use Rattle.reply_writer.proofs.Names.{sent-in}
 use Rattle.reply_writer.proofs.Firmware.{info-size}
 use Rattle.reply_writer.proofs.fw_info_len.Statement.{statement}
@@ -13,11 +13,11 @@ use Rattle.reply_writer.proofs.fw_info_len.Lts as lts
 use Rattle.reply_writer.proofs.name_len.Reads as name-len-reads
 
 -- the lengths of the arrays
-commit-long : (s : lts.Start (name-len-reads.Asked, name-len-reads.Learnt) reads.Pre reads.Post) → hashRoom ≡ length s.args.info.commit_hash
-commit-long s = let long : length s.args.info.commit_hash ≡ hashRoom = search rules in sym long
+commit-long : (s : lts.Start (name-len-reads.Asked, name-len-reads.Learnt) reads.Pre reads.Post) → hash_room ≡ length s.args.info.commit_hash
+commit-long s = let long : length s.args.info.commit_hash ≡ hash_room = search rules in sym long
 
-user-long : (s : lts.Start (name-len-reads.Asked, name-len-reads.Learnt) reads.Pre reads.Post) → hashRoom ≡ length s.args.info.user_commit_hash
-user-long s = let long : length s.args.info.user_commit_hash ≡ hashRoom = search rules in sym long
+user-long : (s : lts.Start (name-len-reads.Asked, name-len-reads.Learnt) reads.Pre reads.Post) → hash_room ≡ length s.args.info.user_commit_hash
+user-long s = let long : length s.args.info.user_commit_hash ≡ hash_room = search rules in sym long
 
 slice-aggregate-name-len : tie.Need-slice-aggregate-name-len
 slice-aggregate-name-len c = search rules

@@ -3,7 +3,7 @@ use borrow.Author.Rules.{rules}
 use mathlib.Core.Path.{◌≡◌, sym}
 use native.Mathlib.Omega.{arith}
 use lib.ListN.{length}
-use Rattle.format.specs.Format.{nameRoom}
+use Rattle.format.specs.Format.{name_room}
 use Rattle.reply_writer.proofs.Names.{sent-in}
 use Rattle.reply_writer.proofs.Firmware.{version-size}
 use Rattle.reply_writer.proofs.fw_version_len.Statement.{statement}
@@ -13,11 +13,11 @@ use Rattle.reply_writer.proofs.fw_version_len.Lts as lts
 use Rattle.reply_writer.proofs.name_len.Reads as name-len-reads
 
 -- the lengths of the arrays
-hw-long : (s : lts.Start (name-len-reads.Asked, name-len-reads.Learnt) reads.Pre reads.Post) → nameRoom ≡ length s.args.version.hw_name
-hw-long s = let long : length s.args.version.hw_name ≡ nameRoom = search rules in sym long
+hw-long : (s : lts.Start (name-len-reads.Asked, name-len-reads.Learnt) reads.Pre reads.Post) → name_room ≡ length s.args.version.hw_name
+hw-long s = let long : length s.args.version.hw_name ≡ name_room = search rules in sym long
 
-fw-long : (s : lts.Start (name-len-reads.Asked, name-len-reads.Learnt) reads.Pre reads.Post) → nameRoom ≡ length s.args.version.fw_name
-fw-long s = let long : length s.args.version.fw_name ≡ nameRoom = search rules in sym long
+fw-long : (s : lts.Start (name-len-reads.Asked, name-len-reads.Learnt) reads.Pre reads.Post) → name_room ≡ length s.args.version.fw_name
+fw-long s = let long : length s.args.version.fw_name ≡ name_room = search rules in sym long
 
 uuid-long : (s : lts.Start (name-len-reads.Asked, name-len-reads.Learnt) reads.Pre reads.Post) → 12 ≡ length s.args.version.uuid
 uuid-long s = let long : length s.args.version.uuid ≡ 12 = search rules in sym long

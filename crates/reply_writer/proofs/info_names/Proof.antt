@@ -2,7 +2,7 @@
 use borrow.Author.Rules.{rules}
 use mathlib.Core.Path.{◌≡◌, sym}
 use lib.ListN.{length}
-use Rattle.format.specs.Format.{hashRoom}
+use Rattle.format.specs.Format.{hash_room}
 use Rattle.reply_writer.proofs.Names.{both-in}
 use Rattle.reply_writer.proofs.info_names.Statement.{statement}
 use Rattle.reply_writer.proofs.info_names.Tie as tie
@@ -11,11 +11,11 @@ use Rattle.reply_writer.proofs.info_names.Lts as lts
 use Rattle.reply_writer.proofs.are_names.Reads as are-names-reads
 
 -- the lengths of the arrays
-commit-long : (s : lts.Start (are-names-reads.Asked, are-names-reads.Learnt) reads.Pre reads.Post) → hashRoom ≡ length s.args.info.commit_hash
-commit-long s = let long : length s.args.info.commit_hash ≡ hashRoom = search rules in sym long
+commit-long : (s : lts.Start (are-names-reads.Asked, are-names-reads.Learnt) reads.Pre reads.Post) → hash_room ≡ length s.args.info.commit_hash
+commit-long s = let long : length s.args.info.commit_hash ≡ hash_room = search rules in sym long
 
-user-long : (s : lts.Start (are-names-reads.Asked, are-names-reads.Learnt) reads.Pre reads.Post) → hashRoom ≡ length s.args.info.user_commit_hash
-user-long s = let long : length s.args.info.user_commit_hash ≡ hashRoom = search rules in sym long
+user-long : (s : lts.Start (are-names-reads.Asked, are-names-reads.Learnt) reads.Pre reads.Post) → hash_room ≡ length s.args.info.user_commit_hash
+user-long s = let long : length s.args.info.user_commit_hash ≡ hash_room = search rules in sym long
 
 slice-aggregate-are-names : tie.Need-slice-aggregate-are-names
 slice-aggregate-are-names c = search rules

@@ -5,13 +5,13 @@ use Prim.Native.Nat.{◌+◌, ◌-◌, ◌≤◌}
 use native.Mathlib.Omega.{arith}
 use lib.ListN.{length, drop}
 use Rattle.tables.proofs.Turns.{Onward}
-use Rattle.reply_writer.proofs.Each.{eachOf, turns-start, turn-length, turn-next, turns-past}
+use Rattle.reply_writer.proofs.Each.{each_of, turns-start, turn-length, turn-next, turns-past}
 use Rattle.reply_writer.proofs.pack_each.Statement.{statement}
 use Rattle.reply_writer.proofs.pack_each.Tie as tie
 
 abbrev invariant-loop : tie.invariant-loop
 invariant-loop part buf₀ pos k₀ buf k =
-    (k ≤ length part) × (length buf ≡ length buf₀) × Onward (eachOf (drop k part)) buf (pos + k) (eachOf part) buf₀ pos
+    (k ≤ length part) × (length buf ≡ length buf₀) × Onward (each_of (drop k part)) buf (pos + k) (each_of part) buf₀ pos
 
 abbrev decreases-loop : tie.decreases-loop
 decreases-loop part buf₀ pos k₀ buf k = length part - k

@@ -3,7 +3,7 @@ use borrow.Author.Rules.{rules}
 use mathlib.Core.Path.{◌≡◌, sym}
 use native.Mathlib.Omega.{arith}
 use lib.ListN.{length}
-use Rattle.format.specs.Format.{hashRoom}
+use Rattle.format.specs.Format.{hash_room}
 use Rattle.reply_writer.proofs.Names.{sent-in}
 use Rattle.reply_writer.proofs.Firmware.{info-size, info-packed}
 use Rattle.reply_writer.proofs.pack_fw_info.Statement.{statement}
@@ -15,11 +15,11 @@ use Rattle.reply_writer.proofs.pack_each.Reads as pack-each-reads
 use Rattle.reply_writer.proofs.pack_name.Reads as pack-name-reads
 
 -- the lengths of the arrays
-commit-long : (s : lts.Start (name-len-reads.Asked, name-len-reads.Learnt, pack-each-reads.Asked, pack-each-reads.Learnt, pack-name-reads.Asked, pack-name-reads.Learnt) reads.Pre reads.Post) → hashRoom ≡ length s.args.info.commit_hash
-commit-long s = let long : length s.args.info.commit_hash ≡ hashRoom = search rules in sym long
+commit-long : (s : lts.Start (name-len-reads.Asked, name-len-reads.Learnt, pack-each-reads.Asked, pack-each-reads.Learnt, pack-name-reads.Asked, pack-name-reads.Learnt) reads.Pre reads.Post) → hash_room ≡ length s.args.info.commit_hash
+commit-long s = let long : length s.args.info.commit_hash ≡ hash_room = search rules in sym long
 
-user-long : (s : lts.Start (name-len-reads.Asked, name-len-reads.Learnt, pack-each-reads.Asked, pack-each-reads.Learnt, pack-name-reads.Asked, pack-name-reads.Learnt) reads.Pre reads.Post) → hashRoom ≡ length s.args.info.user_commit_hash
-user-long s = let long : length s.args.info.user_commit_hash ≡ hashRoom = search rules in sym long
+user-long : (s : lts.Start (name-len-reads.Asked, name-len-reads.Learnt, pack-each-reads.Asked, pack-each-reads.Learnt, pack-name-reads.Asked, pack-name-reads.Learnt) reads.Pre reads.Post) → hash_room ≡ length s.args.info.user_commit_hash
+user-long s = let long : length s.args.info.user_commit_hash ≡ hash_room = search rules in sym long
 
 add-end : tie.Need-overflow-add-end
 add-end c = search rules

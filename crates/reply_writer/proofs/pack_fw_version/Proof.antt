@@ -3,7 +3,7 @@ use borrow.Author.Rules.{rules}
 use mathlib.Core.Path.{◌≡◌, sym}
 use native.Mathlib.Omega.{arith}
 use lib.ListN.{length}
-use Rattle.format.specs.Format.{nameRoom}
+use Rattle.format.specs.Format.{name_room}
 use Rattle.reply_writer.proofs.Names.{sent-in}
 use Rattle.reply_writer.proofs.Firmware.{rest-size, version-size, version-packed}
 use Rattle.reply_writer.proofs.pack_fw_version.Statement.{statement}
@@ -16,8 +16,8 @@ use Rattle.reply_writer.proofs.pack_fw_version_after.Reads as pack-fw-version-af
 use Rattle.reply_writer.proofs.pack_name.Reads as pack-name-reads
 
 -- the lengths of the arrays
-hw-long : (s : lts.Start (name-len-reads.Asked, name-len-reads.Learnt, pack-each-reads.Asked, pack-each-reads.Learnt, pack-name-reads.Asked, pack-name-reads.Learnt, pack-fw-version-after-reads.Asked, pack-fw-version-after-reads.Learnt) reads.Pre reads.Post) → nameRoom ≡ length s.args.version.hw_name
-hw-long s = let long : length s.args.version.hw_name ≡ nameRoom = search rules in sym long
+hw-long : (s : lts.Start (name-len-reads.Asked, name-len-reads.Learnt, pack-each-reads.Asked, pack-each-reads.Learnt, pack-name-reads.Asked, pack-name-reads.Learnt, pack-fw-version-after-reads.Asked, pack-fw-version-after-reads.Learnt) reads.Pre reads.Post) → name_room ≡ length s.args.version.hw_name
+hw-long s = let long : length s.args.version.hw_name ≡ name_room = search rules in sym long
 
 uuid-long : (s : lts.Start (name-len-reads.Asked, name-len-reads.Learnt, pack-each-reads.Asked, pack-each-reads.Learnt, pack-name-reads.Asked, pack-name-reads.Learnt, pack-fw-version-after-reads.Asked, pack-fw-version-after-reads.Learnt) reads.Pre reads.Post) → 12 ≡ length s.args.version.uuid
 uuid-long s = let long : length s.args.version.uuid ≡ 12 = search rules in sym long

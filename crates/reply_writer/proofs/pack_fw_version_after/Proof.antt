@@ -3,7 +3,7 @@ use borrow.Author.Rules.{rules}
 use mathlib.Core.Path.{◌≡◌, sym}
 use native.Mathlib.Omega.{arith}
 use lib.ListN.{length}
-use Rattle.format.specs.Format.{nameRoom}
+use Rattle.format.specs.Format.{name_room}
 use Rattle.reply_writer.proofs.Names.{sent-in}
 use Rattle.reply_writer.proofs.Firmware.{rest-size, rest-packed}
 use Rattle.reply_writer.proofs.pack_fw_version_after.Statement.{statement}
@@ -16,8 +16,8 @@ use Rattle.reply_writer.proofs.pack_each.Reads as pack-each-reads
 use Rattle.reply_writer.proofs.pack_name.Reads as pack-name-reads
 
 -- the lengths of the arrays
-fw-long : (s : lts.Start (name-len-reads.Asked, name-len-reads.Learnt, pack-each-reads.Asked, pack-each-reads.Learnt, pack-name-reads.Asked, pack-name-reads.Learnt, pack-u32-reads.Asked, pack-u32-reads.Learnt) reads.Pre reads.Post) → nameRoom ≡ length s.args.version.fw_name
-fw-long s = let long : length s.args.version.fw_name ≡ nameRoom = search rules in sym long
+fw-long : (s : lts.Start (name-len-reads.Asked, name-len-reads.Learnt, pack-each-reads.Asked, pack-each-reads.Learnt, pack-name-reads.Asked, pack-name-reads.Learnt, pack-u32-reads.Asked, pack-u32-reads.Learnt) reads.Pre reads.Post) → name_room ≡ length s.args.version.fw_name
+fw-long s = let long : length s.args.version.fw_name ≡ name_room = search rules in sym long
 
 uuid-long : (s : lts.Start (name-len-reads.Asked, name-len-reads.Learnt, pack-each-reads.Asked, pack-each-reads.Learnt, pack-name-reads.Asked, pack-name-reads.Learnt, pack-u32-reads.Asked, pack-u32-reads.Learnt) reads.Pre reads.Post) → 12 ≡ length s.args.version.uuid
 uuid-long s = let long : length s.args.version.uuid ≡ 12 = search rules in sym long

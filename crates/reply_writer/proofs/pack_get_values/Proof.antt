@@ -1,8 +1,8 @@
 -- `reply_writer::pack_get_values` meets its contract: the id and the fields, one after the other.
 use borrow.Author.Rules.{rules}
-use Rattle.format.specs.Format.{allValues}
-use Rattle.tables.specs.Tables.{valuesTable}
-use Rattle.raw_telemetry.specs.Records.{valuesRows}
+use Rattle.format.specs.Format.{all_values}
+use Rattle.tables.specs.Tables.{values_table}
+use Rattle.raw_telemetry.specs.Records.{values_rows}
 use Rattle.reply_writer.proofs.Each.{fields-packed}
 use Rattle.reply_writer.proofs.Payloads.{unpadded, packed-as}
 use Rattle.reply_writer.proofs.pack_get_values.Statement.{statement}
@@ -26,7 +26,7 @@ same_length c = search rules
 returns : tie.Need-returns
 returns c =
     let start = c.before.before.before.before.before.before.before.before.before.before in
-    let same = unpadded allValues valuesTable (valuesRows start.args.values) c.before.before.before.values-numbers.ensures in
+    let same = unpadded all_values values_table (values_rows start.args.values) c.before.before.before.values-numbers.ensures in
     fields-packed _ _ _ start.requires c.before.before.before.before.before.before.before.pack-u8.ensures (packed-as same c.before.before.pack-fields.ensures)
 
 pub pack-get-values-spec : {M : Type 1} → statement M

@@ -4,8 +4,8 @@ use mathlib.Core.Path.{◌≡◌, ap}
 use native.Mathlib.Omega.{arith}
 use Prim.Native.Nat.{ℕ, ◌-◌}
 use lib.ListN.{length, take}
-use Rattle.refusals.specs.Answers.{placeOr}
-use Rattle.names.specs.Names.{sentOf}
+use Rattle.refusals.specs.Answers.{place_or}
+use Rattle.names.specs.Names.{sent_of}
 use Rattle.reply_writer.proofs.Payloads.{packed-as}
 use Rattle.reply_writer.proofs.pack_name.Statement.{statement}
 use Rattle.reply_writer.proofs.pack_name.Tie as tie
@@ -32,7 +32,7 @@ returns : tie.Need-returns
 returns c =
     let held = c.before.before.before.before.before.before.before.before.args.held.now in
     let len = c.before.before.before.before.before.name-len in
-    let same : placeOr 0 (sentOf (length held) held) ≡ len.result - 0 = omega (arith, len.ensures.0) in
+    let same : place_or 0 (sent_of (length held) held) ≡ len.result - 0 = omega (arith, len.ensures.0) in
     packed-as (ap (λ (n : ℕ). take n held) same) c.before.before.pack-bytes.ensures
 
 pub pack-name-spec : {M : Type 1} → statement M

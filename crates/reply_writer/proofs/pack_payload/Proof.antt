@@ -1,6 +1,6 @@
 -- `reply_writer::pack_payload` meets its contract, by the kind.
 use borrow.Author.Rules.{rules}
-use Rattle.packer.specs.Numbers.{bigEndian}
+use Rattle.packer.specs.Numbers.{big_endian}
 use Rattle.reply_writer.proofs.Payloads.{version-payload, values-payload, selective-payload, setup-payload, stats-payload, reset-payload, info-payload, room_as, packed-as}
 use Rattle.reply_writer.proofs.pack_payload.Statement.{statement}
 use Rattle.reply_writer.proofs.pack_payload.Tie as tie
@@ -90,7 +90,7 @@ same-length-6 : tie.Need-same-length-6
 same-length-6 c = search rules
 
 returns-6 : tie.Need-returns-6
-unfolding bigEndian
+unfolding big_endian
 returns-6 c = packed-as (reset-payload c.before.before.before.before.before.before.before.args.reply c.before.before.before.before.enum-told6.given.1) c.before.before.pack-u8.ensures
 
 same-length-7 : tie.Need-same-length-7

@@ -3,10 +3,10 @@ use borrow.Author.Rules.{rules}
 use mathlib.Core.Path.{refl, sym, ap, ◌∙◌}
 use native.Mathlib.Omega.{arith}
 use lib.ListN.{length}
-use Rattle.format.specs.Format.{allValues}
-use Rattle.tables.specs.Tables.{valuesTable, setupTable, statsTable}
+use Rattle.format.specs.Format.{all_values}
+use Rattle.tables.specs.Tables.{values_table, setup_table, stats_table}
 use Rattle.tables.specs.declared.Sort.TheVariants as Sort
-use Rattle.raw_telemetry.specs.Records.{valuesRows, setupRows, statsRows}
+use Rattle.raw_telemetry.specs.Records.{values_rows, setup_rows, stats_rows}
 use Rattle.reply_writer.proofs.Payloads.{version-payload, values-payload, selective-payload, setup-payload, stats-payload, reset-payload, info-payload, masked-size, fields-size, span-most}
 use Rattle.reply_writer.proofs.payload_len.Statement.{statement}
 use Rattle.reply_writer.proofs.payload_len.Tie as tie
@@ -24,7 +24,7 @@ span-requires : tie.Need-span-requires
 span-requires c κs = search rules
 
 add-result : tie.Need-overflow-add-result
-add-result c = omega (arith, c.span.ensures, span-most Sort.Values allValues)
+add-result c = omega (arith, c.span.ensures, span-most Sort.Values all_values)
 
 enum-told-3 : tie.Need-enum-told-3
 enum-told-3 c = search rules
@@ -59,25 +59,25 @@ returns c = (c.fw-version-len.ensures.0 ∙ sym (ap length (version-payload c.be
 returns-2 : tie.Need-returns-2
 returns-2 c =
     let r = c.before.before.before.args.reply in
-    let size = ap length (values-payload r c.before.enum-told2.given.1) ∙ fields-size allValues valuesTable (valuesRows r.values) 4 in
-    (omega (arith, size, c.span.ensures), omega (arith, c.span.ensures, span-most Sort.Values allValues))
+    let size = ap length (values-payload r c.before.enum-told2.given.1) ∙ fields-size all_values values_table (values_rows r.values) 4 in
+    (omega (arith, size, c.span.ensures), omega (arith, c.span.ensures, span-most Sort.Values all_values))
 
 returns-3 : tie.Need-returns-3
 returns-3 c =
     let r = c.before.before.before.args.reply in
-    let size = ap length (selective-payload r c.before.enum-told3.given.1 refl) ∙ masked-size r.values.mask valuesTable (valuesRows r.values) 50 in
+    let size = ap length (selective-payload r c.before.enum-told3.given.1 refl) ∙ masked-size r.values.mask values_table (values_rows r.values) 50 in
     (c.masked-len.ensures.0 ∙ sym size, c.masked-len.ensures.1)
 
 returns-4 : tie.Need-returns-4
 returns-4 c =
     let r = c.before.before.before.args.reply in
-    let size = ap length (setup-payload r c.before.enum-told4.given.1 refl) ∙ masked-size r.setup_values.mask setupTable (setupRows r.setup_values) 51 in
+    let size = ap length (setup-payload r c.before.enum-told4.given.1 refl) ∙ masked-size r.setup_values.mask setup_table (setup_rows r.setup_values) 51 in
     (c.masked-len2.ensures.0 ∙ sym size, c.masked-len2.ensures.1)
 
 returns-5 : tie.Need-returns-5
 returns-5 c =
     let r = c.before.before.before.args.reply in
-    let size = ap length (stats-payload r c.before.enum-told5.given.1 refl) ∙ masked-size r.stats.mask statsTable (statsRows r.stats) 128 in
+    let size = ap length (stats-payload r c.before.enum-told5.given.1 refl) ∙ masked-size r.stats.mask stats_table (stats_rows r.stats) 128 in
     (c.masked-len3.ensures.0 ∙ sym size, c.masked-len3.ensures.1)
 
 returns-6 : tie.Need-returns-6

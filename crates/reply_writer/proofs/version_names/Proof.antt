@@ -2,7 +2,7 @@
 use borrow.Author.Rules.{rules}
 use mathlib.Core.Path.{◌≡◌, sym}
 use lib.ListN.{length}
-use Rattle.format.specs.Format.{nameRoom}
+use Rattle.format.specs.Format.{name_room}
 use Rattle.reply_writer.proofs.Names.{both-in}
 use Rattle.reply_writer.proofs.version_names.Statement.{statement}
 use Rattle.reply_writer.proofs.version_names.Tie as tie
@@ -11,11 +11,11 @@ use Rattle.reply_writer.proofs.version_names.Lts as lts
 use Rattle.reply_writer.proofs.are_names.Reads as are-names-reads
 
 -- the lengths of the arrays
-hw-long : (s : lts.Start (are-names-reads.Asked, are-names-reads.Learnt) reads.Pre reads.Post) → nameRoom ≡ length s.args.version.hw_name
-hw-long s = let long : length s.args.version.hw_name ≡ nameRoom = search rules in sym long
+hw-long : (s : lts.Start (are-names-reads.Asked, are-names-reads.Learnt) reads.Pre reads.Post) → name_room ≡ length s.args.version.hw_name
+hw-long s = let long : length s.args.version.hw_name ≡ name_room = search rules in sym long
 
-fw-long : (s : lts.Start (are-names-reads.Asked, are-names-reads.Learnt) reads.Pre reads.Post) → nameRoom ≡ length s.args.version.fw_name
-fw-long s = let long : length s.args.version.fw_name ≡ nameRoom = search rules in sym long
+fw-long : (s : lts.Start (are-names-reads.Asked, are-names-reads.Learnt) reads.Pre reads.Post) → name_room ≡ length s.args.version.fw_name
+fw-long s = let long : length s.args.version.fw_name ≡ name_room = search rules in sym long
 
 slice-aggregate-are-names : tie.Need-slice-aggregate-are-names
 slice-aggregate-are-names c = search rules

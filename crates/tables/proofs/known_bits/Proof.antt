@@ -1,5 +1,5 @@
 -- `tables::known_bits` meets its contract.
-use Rattle.tables.specs.Sorts.{knownBits}
+use Rattle.tables.specs.Sorts.{known_bits}
 use borrow.Author.Rules.{rules}
 use Rattle.tables.proofs.known_bits.Statement.{statement}
 use Rattle.tables.proofs.known_bits.Tie as tie
@@ -32,15 +32,15 @@ shl-result-3 : tie.Need-overflow-shl-result-3
 shl-result-3 c = search rules
 
 returns : tie.Need-returns
-unfolding knownBits
+unfolding known_bits
 returns c = rw c.enum_told.given.1
 
 returns-2 : tie.Need-returns-2
-unfolding knownBits
+unfolding known_bits
 returns-2 c = rw c.enum-told2.given.1
 
 returns-3 : tie.Need-returns-3
-unfolding knownBits
+unfolding known_bits
 returns-3 c = rw c.enum-told3.given.1
 
 pub known-bits-spec : {M : Type 1} → statement M

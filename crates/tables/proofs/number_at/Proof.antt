@@ -5,12 +5,12 @@ use native.Mathlib.Omega.{arith}
 use native.Mathlib.Numerals.{add-one}
 use native.Mathlib.Nat.{pow-le-pow_right, pow-suc}
 use borrow.Author.Rules.{rules}
-use Rattle.packer.specs.Numbers.{beAt}
+use Rattle.packer.specs.Numbers.{be_at}
 use Rattle.tables.proofs.number_at.Statement.{statement}
 use Rattle.tables.proofs.number_at.Tie as tie
 
 abbrev invariant-loop : tie.invariant-loop
-invariant-loop part at width number₀ k₀ number k = (k ≤ width) × (number ≡ beAt part at k) × (number < 256 ^ k)
+invariant-loop part at width number₀ k₀ number k = (k ≤ width) × (number ≡ be_at part at k) × (number < 256 ^ k)
 
 abbrev decreases-loop : tie.decreases-loop
 decreases-loop part at width number₀ k₀ number k = width - k
@@ -19,7 +19,7 @@ small : (k width : ℕ) → k < width → width ≤ 4 → 256 ^ k ≤ 256 ^ 3
 small k width h l = let j : k ≤ 3 = omega arith in pow-le-pow_right (omega arith) j
 
 loop-holds : tie.Need-loop-init invariant-loop decreases-loop
-unfolding beAt
+unfolding be_at
 loop-holds c = (omega arith, refl, omega arith)
 
 mul-number : tie.Need-overflow-mul-number invariant-loop decreases-loop
@@ -44,7 +44,7 @@ loop-less : tie.Need-loop-smaller invariant-loop decreases-loop
 loop-less c = omega arith
 
 loop-again : tie.Need-loop-preserved invariant-loop decreases-loop
-unfolding beAt
+unfolding be_at
 loop-again c = (
   omega arith,
   rw add-one (omega (arith, c.wide.ensures.0, c.before.byte_at.ensures)),

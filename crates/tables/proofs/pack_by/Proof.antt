@@ -7,15 +7,15 @@ use borrow.Author.Rules.{rules}
 use lib.ListN.{length, drop}
 use Rattle.packer.specs.Numbers.{total, digits}
 use Rattle.packer.proofs.Writes.{full-packed}
-use Rattle.tables.specs.Rows.{widthsBy}
+use Rattle.tables.specs.Rows.{widths_by}
 use Rattle.tables.proofs.Turns.{rows-size, Onward, span-next, written-length, written_next, written-past}
 use Rattle.tables.proofs.pack_by.Statement.{statement}
 use Rattle.tables.proofs.pack_by.Tie as tie
 
 abbrev invariant-loop : tie.invariant-loop
 invariant-loop buf₀ pos mask rows raw size room at₀ k₀ buf at k =
-    (k ≤ length rows) × (length buf ≡ length buf₀) × (at + total (drop k (widthsBy mask rows)) ≤ length buf₀)
-    × Onward (digits (drop k (widthsBy mask rows)) (drop k raw)) buf at (digits (widthsBy mask rows) raw) buf₀ pos
+    (k ≤ length rows) × (length buf ≡ length buf₀) × (at + total (drop k (widths_by mask rows)) ≤ length buf₀)
+    × Onward (digits (drop k (widths_by mask rows)) (drop k raw)) buf at (digits (widths_by mask rows) raw) buf₀ pos
 
 abbrev decreases-loop : tie.decreases-loop
 decreases-loop buf₀ pos mask rows raw size room at₀ k₀ buf at k = length rows - k
@@ -72,7 +72,7 @@ loop-again c =
     let takes = c.before.before.before.before.takes.ensures in
     let inside = c.before.before.before.before.before.before.loop-test.true in
     let long : length args.rows.now ≤ length args.t5 = omega (arith, start.requires.few) in
-    let room : loop.at + total (drop loop.k (widthsBy args.mask args.rows.now)) ≤ length loop.buf = omega arith in
+    let room : loop.at + total (drop loop.k (widths_by args.mask args.rows.now)) ≤ length loop.buf = omega arith in
     let wrote = c.before.before.pack-be.ensures in (
       omega arith,
       written-length args.mask args.rows.now _ _ inside takes args.t5 long room wrote ∙ loop.invariant.1,

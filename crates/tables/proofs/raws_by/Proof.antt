@@ -6,17 +6,17 @@ use native.Mathlib.Omega.{arith}
 use borrow.Author.Rules.{rules}
 use lib.ListN.{length, drop, replicate, length-set}
 use lib.Seq.{sets}
-use Rattle.format.specs.Format.{tableRows}
-use Rattle.packer.specs.Numbers.{numbersAt}
-use Rattle.tables.specs.Rows.{widthsBy}
+use Rattle.format.specs.Format.{table_rows}
+use Rattle.packer.specs.Numbers.{numbers_at}
+use Rattle.tables.specs.Rows.{widths_by}
 use Rattle.tables.proofs.Turns.{takes-most, stored_next, stored_past, stored-all}
 use Rattle.tables.proofs.raws_by.Statement.{statement}
 use Rattle.tables.proofs.raws_by.Tie as tie
 
 abbrev invariant-loop : tie.invariant-loop
 invariant-loop part mask rows raw₀ at₀ k₀ raw at k =
-    (k ≤ length rows) × (at ≤ 4 * k) × (length raw ≡ tableRows)
-    × (sets raw k (numbersAt (drop k (widthsBy mask rows)) part at) ≡ sets (replicate tableRows 0) 0 (numbersAt (widthsBy mask rows) part 0))
+    (k ≤ length rows) × (at ≤ 4 * k) × (length raw ≡ table_rows)
+    × (sets raw k (numbers_at (drop k (widths_by mask rows)) part at) ≡ sets (replicate table_rows 0) 0 (numbers_at (widths_by mask rows) part 0))
 
 abbrev decreases-loop : tie.decreases-loop
 decreases-loop part mask rows raw₀ at₀ k₀ raw at k = length rows - k

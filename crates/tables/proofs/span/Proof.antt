@@ -1,6 +1,6 @@
 -- `tables::span` meets its contract: the fields of the code's tables and those of document 01's compute to the same sum.
 use Rattle.tables.specs.Tables.{takes, widths}
-use Rattle.tables.specs.Rows.{rowTakes, widthsBy}
+use Rattle.tables.specs.Rows.{row_takes, widths_by}
 use borrow.Author.Rules.{rules}
 use Rattle.tables.proofs.span.Statement.{statement}
 use Rattle.tables.proofs.span.Tie as tie
@@ -33,15 +33,15 @@ span-by-requires-3 : tie.Need-span-by-requires-3
 span-by-requires-3 c κs = search rules
 
 returns : tie.Need-returns
-unfolding takes widths rowTakes widthsBy
+unfolding takes widths row_takes widths_by
 returns c = rw c.before.before.enum_told.given.1 c.span-by.ensures
 
 returns-2 : tie.Need-returns-2
-unfolding takes widths rowTakes widthsBy
+unfolding takes widths row_takes widths_by
 returns-2 c = rw c.before.before.enum-told2.given.1 c.span-by2.ensures
 
 returns-3 : tie.Need-returns-3
-unfolding takes widths rowTakes widthsBy
+unfolding takes widths row_takes widths_by
 returns-3 c = rw c.before.before.enum-told3.given.1 c.span-by3.ensures
 
 pub span-spec : {M : Type 1} → statement M

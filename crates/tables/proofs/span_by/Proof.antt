@@ -5,14 +5,14 @@ use native.Mathlib.Omega.{arith}
 use borrow.Author.Rules.{rules}
 use lib.ListN.{length, drop}
 use Rattle.packer.specs.Numbers.{total}
-use Rattle.tables.specs.Rows.{widthsBy}
+use Rattle.tables.specs.Rows.{widths_by}
 use Rattle.tables.proofs.Turns.{takes-most, span-next, span-past}
 use Rattle.tables.proofs.span_by.Statement.{statement}
 use Rattle.tables.proofs.span_by.Tie as tie
 
 abbrev invariant-loop : tie.invariant-loop
 invariant-loop mask rows sum₀ k₀ sum k =
-    (k ≤ length rows) × (sum ≤ 4 * k) × (sum + total (drop k (widthsBy mask rows)) ≡ total (widthsBy mask rows))
+    (k ≤ length rows) × (sum ≤ 4 * k) × (sum + total (drop k (widths_by mask rows)) ≡ total (widths_by mask rows))
 
 abbrev decreases-loop : tie.decreases-loop
 decreases-loop mask rows sum₀ k₀ sum k = length rows - k

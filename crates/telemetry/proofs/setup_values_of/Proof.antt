@@ -2,15 +2,15 @@
 use mathlib.Core.Path.{ap, ◌∙◌}
 use lib.Ieee.{of_int, of_bits}
 use lib.ListN.{get_or}
-use Rattle.codes.specs.Codes.{faultOf}
+use Rattle.codes.specs.Codes.{fault_of}
 use Rattle.telemetry.specs.declared.SetupValues.{SetupValues}
-use Rattle.telemetry.specs.Telemetry.{setupValuesWith, setupValuesOf}
+use Rattle.telemetry.specs.Telemetry.{setup_values_with, setup_values_of}
 use Rattle.telemetry.proofs.Rows.{row, free}
 use Rattle.telemetry.proofs.setup_values_of.Statement.{statement}
 use Rattle.telemetry.proofs.setup_values_of.Tie as tie
 
 returns : tie.Need-returns
-unfolding setupValuesWith setupValuesOf of_int of_bits
+unfolding setup_values_with setup_values_of of_int of_bits
 returns c =
     let begun = c.before.before.before.before.before.before.before.before.before.before.before.before.before.before.before.before.before.before.before in
     let raw = begun.before.before.before.args.t2 in
@@ -33,7 +33,7 @@ returns c =
       distance = c.before.before.before.before.before.word-over9.ensures i;
       distance_abs = c.before.before.before.before.word-over10.ensures i;
       pid_pos = c.before.before.before.word-over11.ensures i;
-      fault_code = (ap (λ (v : SetupValues). v.fault_code) begun.setup-values-begun.ensures ∙ begun.before.fault-code.ensures ∙ ap faultOf begun.before.before.one_byte.ensures) i;
+      fault_code = (ap (λ (v : SetupValues). v.fault_code) begun.setup-values-begun.ensures ∙ begun.before.fault-code.ensures ∙ ap fault_of begun.before.before.one_byte.ensures) i;
       controller_id = c.before.before.one-byte2.ensures i;
       num_vescs = c.before.one-byte3.ensures i;
       watt_hours_battery_left = c.word-over12.ensures i;

@@ -1,13 +1,13 @@
 -- `telemetry::stats_of` meets its contract: each field is what its own store left.
 use mathlib.Core.Path.{ap}
 use Rattle.telemetry.specs.declared.Stats.{Stats}
-use Rattle.telemetry.specs.Telemetry.{statsOf}
+use Rattle.telemetry.specs.Telemetry.{stats_of}
 use Rattle.telemetry.proofs.Rows.{row, free}
 use Rattle.telemetry.proofs.stats_of.Statement.{statement}
 use Rattle.telemetry.proofs.stats_of.Tie as tie
 
 returns : tie.Need-returns
-unfolding statsOf
+unfolding stats_of
 returns c =
     λ i.
     record {

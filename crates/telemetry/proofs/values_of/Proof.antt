@@ -1,15 +1,15 @@
 -- `telemetry::values_of` meets its contract: each field is what its own store left.
 use mathlib.Core.Path.{ap, ◌∙◌}
 use lib.Ieee.{of_int, of_bits}
-use Rattle.codes.specs.Codes.{faultOf}
+use Rattle.codes.specs.Codes.{fault_of}
 use Rattle.telemetry.specs.declared.Values.{Values}
-use Rattle.telemetry.specs.Telemetry.{valuesWith, valuesOf}
+use Rattle.telemetry.specs.Telemetry.{values_with, values_of}
 use Rattle.telemetry.proofs.Rows.{row, free}
 use Rattle.telemetry.proofs.values_of.Statement.{statement}
 use Rattle.telemetry.proofs.values_of.Tie as tie
 
 returns : tie.Need-returns
-unfolding valuesWith valuesOf of_int of_bits
+unfolding values_with values_of of_int of_bits
 returns c =
     let begun = c.before.before.before.before.before.before.before.before.before.before.before.before.before.before.before.before.before.before.before.before.before.before.before in
     λ i.
@@ -30,7 +30,7 @@ returns c =
       watt_hours_charged = c.before.before.before.before.before.before.before.before.before.before.word-over9.ensures i;
       tachometer = c.before.before.before.before.before.before.before.before.before.as-i32.ensures i;
       tachometer_abs = c.before.before.before.before.before.before.before.before.as-i322.ensures i;
-      fault_code = (ap (λ (v : Values). v.fault_code) begun.values-begun.ensures ∙ begun.before.fault-code.ensures ∙ ap faultOf begun.before.before.one_byte.ensures) i;
+      fault_code = (ap (λ (v : Values). v.fault_code) begun.values-begun.ensures ∙ begun.before.fault-code.ensures ∙ ap fault_of begun.before.before.one_byte.ensures) i;
       pid_pos = c.before.before.before.before.before.before.before.word-over10.ensures i;
       controller_id = c.before.before.before.before.before.before.one-byte2.ensures i;
       temp_mosfet1 = c.before.before.before.before.before.half-over5.ensures i;

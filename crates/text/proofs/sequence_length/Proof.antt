@@ -3,7 +3,7 @@
 use Rattle.core.specs.Prelude.{◌≡◌, ℕ, List, drop}
 use mathlib.Core.Path.{sym, ◌∙◌}
 use borrow.Author.Rules.{rules}
-use Rattle.text.specs.Utf8.{table, frontLength}
+use Rattle.text.specs.Utf8.{table, front_length}
 use Rattle.text.proofs.Rows.{row-found, row-passed}
 use Rattle.text.proofs.sequence_length.Statement.{statement}
 use Rattle.text.proofs.sequence_length.Tie as tie
@@ -24,7 +24,7 @@ left start = drop start.args.at start.args.bytes.now
 
 -- none of the first k rows stands there
 abbrev Passed : ℕ → lts.Start told reads.Pre reads.Post → Type 0
-Passed k start = frontLength table (left start) ≡ frontLength (drop k table) (left start)
+Passed k start = front_length table (left start) ≡ front_length (drop k table) (left start)
 
 passed-1 : (c : lts.Else1 told reads.Pre reads.Post) → Passed 1 c.before.before.before
 passed-1 c = row-passed _ _ _ c.before.Has-one.ensures c.if1.false
@@ -108,7 +108,7 @@ returns-9 : tie.Need-returns-9
 returns-9 c = sym (passed-8 c.before.before ∙ row-found _ _ _ c.before.has-four3.ensures c.if9.true)
 
 returns-10 : tie.Need-returns-10
-unfolding frontLength
+unfolding front_length
 returns-10 c = sym (passed-9 c)
 
 pub sequence-length-spec : {M : Type 1} → statement M

@@ -3,14 +3,14 @@ use Rattle.core.specs.Prelude.{◌≡◌, ◌-◌, length, drop}
 use mathlib.Core.Path.{refl, sym, ◌∙◌}
 use native.Mathlib.Omega.{arith}
 use lib.ListN.{length-drop}
-use Rattle.text.specs.Utf8.{table, wellFormed}
+use Rattle.text.specs.Utf8.{table, well_formed}
 use Rattle.text.proofs.Rows.{front-within}
 use Rattle.text.proofs.Passing.{past-at, none-at, end-at}
 use Rattle.text.proofs.well_formed.Statement.{statement}
 use Rattle.text.proofs.well_formed.Tie as tie
 
 abbrev invariant-loop : tie.invariant-loop
-invariant-loop bytes at₀ at = wellFormed bytes ≡ wellFormed (drop at bytes)
+invariant-loop bytes at₀ at = well_formed bytes ≡ well_formed (drop at bytes)
 
 abbrev decreases-loop : tie.decreases-loop
 decreases-loop bytes at₀ at = length bytes - at

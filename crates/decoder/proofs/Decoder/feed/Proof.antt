@@ -2,8 +2,8 @@
 use mathlib.Core.Path.{◌≡◌, ap, ◌∙◌}
 use borrow.Author.Rules.{rules}
 use lib.ListN.{length}
-use Rattle.buffer.specs.Buffer.{moved, emptied, fitting, copied, feedCount, fedBuffer}
-use Rattle.decoder.specs.State.{bufferOf}
+use Rattle.buffer.specs.Buffer.{moved, emptied, fitting, copied, feed_count, fed_buffer}
+use Rattle.decoder.specs.State.{buffer_of}
 use Rattle.decoder.proofs.Decoder.feed.Statement.{statement}
 use Rattle.decoder.proofs.Decoder.feed.Tie as tie
 
@@ -20,11 +20,11 @@ copied-requires : tie.Need-copied-requires
 copied-requires c κs = search rules
 
 returns : tie.Need-returns
-unfolding feedCount fedBuffer
+unfolding feed_count fed_buffer
 returns c =
     let args = c.before.before.before.before.before.args in
     let piece = args.piece.now in
-    let buffer : bufferOf c.before.emptied.result ≡ emptied (moved (length piece) (bufferOf args.self)) =
+    let buffer : buffer_of c.before.emptied.result ≡ emptied (moved (length piece) (buffer_of args.self)) =
     c.before.emptied.ensures.is ∙ ap emptied (c.before.before.moved.ensures.is ∙ ap (moved (length piece)) c.before.before.before.settled.ensures.0.is) in
     let count = c.copied.ensures.0 ∙ ap (fitting (length piece)) buffer in
     record {

@@ -5,7 +5,7 @@ use borrow.Author.Tests.{eq-eqb, ne_eqb, not-true, not-false}
 use lib.ListN.{length}
 use Rattle.buffer.specs.Buffer.{moved}
 use Rattle.buffer.proofs.Gateway.{gateway-empty, gateway-refuses}
-use Rattle.decoder.specs.State.{bufferOf}
+use Rattle.decoder.specs.State.{buffer_of}
 use Rattle.decoder.proofs.States.{marked-buffer}
 use Rattle.decoder.proofs.Gateway.{gateway-stays, gateway-copied}
 use Rattle.decoder.proofs.Decoder.gateway_feed.Statement.{statement}
@@ -19,7 +19,7 @@ returns c =
     let args = c.before.before.before.args in
     let settled = c.before.settled in
     gateway-stays args.self args.piece.now _ settled.result settled.ensures.0 settled.ensures.1
-    (gateway-empty (bufferOf args.self) args.piece.now (eq-eqb _ _ c.if1.true))
+    (gateway-empty (buffer_of args.self) args.piece.now (eq-eqb _ _ c.if1.true))
 
 returns-2 : tie.Need-returns-2
 returns-2 c =
@@ -27,7 +27,7 @@ returns-2 c =
     let settled = c.before.before.before.settled in
     let unmarked = sym (marked-buffer settled.result _ settled.ensures.0) ∙ not-true _ c.if2.true in
     gateway-stays args.self args.piece.now _ settled.result settled.ensures.0 settled.ensures.1
-    (gateway-refuses (bufferOf args.self) args.piece.now (ne_eqb _ _ c.before.before.if1.false) unmarked)
+    (gateway-refuses (buffer_of args.self) args.piece.now (ne_eqb _ _ c.before.before.if1.false) unmarked)
 
 moved-requires : tie.Need-moved-requires
 moved-requires c κs = search rules

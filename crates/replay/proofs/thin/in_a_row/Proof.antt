@@ -31,15 +31,15 @@ use denote.Triple.Entry.{on_entry}
 use denote.Triple.Spec.{Meets, triple_of}
 use denote.Triple.Table.{entered, cited}
 use denote.Triple.Walked.{says, Stays, stay_dropped, Goes-dropped, walk_of, ends_at, walked, walk_Meets}
-use Rattle.packer.specs.Unpacking.{unpackedU8, unpackedU32, unpackedF32}
+use Rattle.packer.specs.Unpacking.{unpacked_u8, unpacked_u32, unpacked_f32}
 use Rattle.names.specs.Names.{named39}
-use Rattle.unpacker.specs.Unpacker.{Read, moved, fresh, unsignedRead, scaledRead, nameRead, stepU8, stepU32, stepF32, stepName39}
+use Rattle.unpacker.specs.Unpacker.{Read, moved, fresh, unsigned_read, scaled_read, name_read, step_u8, step_u32, step_f32, step_name39}
 use Rattle.unpacker.specs.declared.StepU8.{StepU8}
 use Rattle.unpacker.specs.declared.StepU32.{StepU32}
 use Rattle.unpacker.specs.declared.StepF32.{StepF32}
 use Rattle.unpacker.specs.declared.StepName39.{StepName39}
-use Rattle.unpacker.proofs.Steps.{stepRow, stepValue, value, answer-is, pos-fits, answer_typed}
-use Rattle.unpacker.proofs.Sorts.{ofU8, ofU32, ofF32, ofName39}
+use Rattle.unpacker.proofs.Steps.{step_row, step_value, value, answer-is, pos-fits, answer_typed}
+use Rattle.unpacker.proofs.Sorts.{of_u8, of_u32, of_f32, of_name39}
 use Rattle.unpacker.proofs.Unpacker.new.Symbol as new-def
 use Rattle.unpacker.proofs.Unpacker.new.Met as new-thm
 use Rattle.unpacker.proofs.Unpacker.unpack_u8.Symbol as u8-def
@@ -50,7 +50,7 @@ use Rattle.unpacker.proofs.Unpacker.unpack_f32.Symbol as f32-def
 use Rattle.unpacker.proofs.Unpacker.unpack_f32.Met as f32-thm
 use Rattle.unpacker.proofs.Unpacker.unpack_c_string_39.Symbol as name-def
 use Rattle.unpacker.proofs.Unpacker.unpack_c_string_39.Met as name-thm
-use Rattle.replay.specs.InARow.{four, inARow, rowFour}
+use Rattle.replay.specs.InARow.{four, in_a_row, row_four}
 use Rattle.replay.specs.declared.thin.Row.{Row}
 use Rattle.replay.specs.contracts.thin.Row as Rows
 use Rattle.replay.proofs.thin.Row.TheLaws as Rows'
@@ -73,16 +73,16 @@ module _ {M : Type 1} {𝓤 : Ura M} (𝓛 : Logic 𝓤) where
   open 𝓛 use {H}
 
   abbrev ByteM : Contract 𝓤
-  ByteM = plainly.MethodTriple ofU8 unpackedU8 (unsignedRead 1) 𝓛
+  ByteM = plainly.MethodTriple of_u8 unpacked_u8 (unsigned_read 1) 𝓛
 
   abbrev NameM : Contract 𝓤
-  NameM = plainly.MethodTriple ofName39 named39 (nameRead 39) 𝓛
+  NameM = plainly.MethodTriple of_name39 named39 (name_read 39) 𝓛
 
   abbrev NumberM : Contract 𝓤
-  NumberM = plainly.MethodTriple ofU32 unpackedU32 (unsignedRead 4) 𝓛
+  NumberM = plainly.MethodTriple of_u32 unpacked_u32 (unsigned_read 4) 𝓛
 
   abbrev ScaledM : Contract 𝓤
-  ScaledM = scaled.MethodTriple ofF32 unpackedF32 (scaledRead 4) 𝓛
+  ScaledM = scaled.MethodTriple of_f32 unpacked_f32 (scaled_read 4) 𝓛
 
   record Known (C : Calls 𝓤 H) (mem : Memory → SProp 𝓤) (run : Routine → Fun 𝓤) : Type 1 where
     new : Triple 𝓤 (C new-def.name) (New 𝓛 mem run)
@@ -96,19 +96,19 @@ module _ (byte : StepU8) (name : StepName39) (number : StepU32) (scl : StepF32) 
   abbrev row : Row
   row = record { byte = byte.answer; name = name.answer; number = number.answer; scaled = scl.answer; pos = scl.pos }
 
-  abbrev rowValue : Val
-  rowValue = vstruct (vcons (value ofU8 byte) (vcons (value ofName39 name) (vcons (value ofU32 number) (vcons (value ofF32 scl) (vcons (vint w64 scl.pos) vnil)))))
+  abbrev row_value : Val
+  row_value = vstruct (vcons (value of_u8 byte) (vcons (value of_name39 name) (vcons (value of_u32 number) (vcons (value of_f32 scl) (vcons (vint w64 scl.pos) vnil)))))
 
-  row_is : Is (stepRow ofU8) byte (stepValue ofU8 byte ∷ []) → Is (stepRow ofName39) name (stepValue ofName39 name ∷ []) → Is (stepRow ofU32) number (stepValue ofU32 number ∷ []) → Is (stepRow ofF32) scl (stepValue ofF32 scl ∷ [])
-      → Is Rows.the_row row (rowValue ∷ [])
-  row_is a b c d = LL.owes Rows.the_type Rows'.the_laws row (answer-is ofU8 byte _ a, (answer-is ofName39 name _ b, (answer-is ofU32 number _ c, (answer-is ofF32 scl _ d, ((refl, pos-fits ofF32 scl _ d), tt)))))
+  row_is : Is (step_row of_u8) byte (step_value of_u8 byte ∷ []) → Is (step_row of_name39) name (step_value of_name39 name ∷ []) → Is (step_row of_u32) number (step_value of_u32 number ∷ []) → Is (step_row of_f32) scl (step_value of_f32 scl ∷ [])
+      → Is Rows.the_row row (row_value ∷ [])
+  row_is a b c d = LL.owes Rows.the_type Rows'.the_laws row (answer-is of_u8 byte _ a, (answer-is of_name39 name _ b, (answer-is of_u32 number _ c, (answer-is of_f32 scl _ d, ((refl, pos-fits of_f32 scl _ d), tt)))))
 
-  row_reads : (scale : Float) (s : List ℕ) → stepU8 byte ≡ unsignedRead 1 s 0 → stepName39 name ≡ nameRead 39 s byte.pos → stepU32 number ≡ unsignedRead 4 s name.pos → stepF32 scl ≡ scaledRead 4 scale s number.pos
-      → rowFour row ≡ inARow scale s
+  row_reads : (scale : Float) (s : List ℕ) → step_u8 byte ≡ unsigned_read 1 s 0 → step_name39 name ≡ name_read 39 s byte.pos → step_u32 number ≡ unsigned_read 4 s name.pos → step_f32 scl ≡ scaled_read 4 scale s number.pos
+      → row_four row ≡ in_a_row scale s
   row_reads scale s a b c d =
-      let b' : stepName39 name ≡ nameRead 39 s (unsignedRead 1 s 0).place = b ∙ ap (λ (r : Read _). nameRead 39 s r.place) a in
-      let c' : stepU32 number ≡ unsignedRead 4 s (nameRead 39 s (unsignedRead 1 s 0).place).place = c ∙ ap (λ (r : Read _). unsignedRead 4 s r.place) b' in
-      let d' : stepF32 scl ≡ scaledRead 4 scale s (unsignedRead 4 s (nameRead 39 s (unsignedRead 1 s 0).place).place).place = d ∙ ap (λ (r : Read _). scaledRead 4 scale s r.place) c' in
+      let b' : step_name39 name ≡ name_read 39 s (unsigned_read 1 s 0).place = b ∙ ap (λ (r : Read _). name_read 39 s r.place) a in
+      let c' : step_u32 number ≡ unsigned_read 4 s (name_read 39 s (unsigned_read 1 s 0).place).place = c ∙ ap (λ (r : Read _). unsigned_read 4 s r.place) b' in
+      let d' : step_f32 scl ≡ scaled_read 4 scale s (unsigned_read 4 s (name_read 39 s (unsigned_read 1 s 0).place).place).place = d ∙ ap (λ (r : Read _). scaled_read 4 scale s r.place) c' in
       λ i. four (a i) (b' i) (c' i) (d' i)
 
 module _ {M : Type 1} {𝓤 : Ura M} (𝓛 : Logic 𝓤) (mem : Memory → SProp 𝓤) (run : Routine → Fun 𝓤) where
@@ -124,7 +124,7 @@ module _ {M : Type 1} {𝓤 : Ura M} (𝓛 : Logic 𝓤) (mem : Memory → SProp
     abbrev Post : Val → SProp 𝓤
     Post = (walk_of 𝓛 in_a_row.ended stayed (in_a_row.clauses 𝓛 mem run)).post (((κ, tt), (q, tt), tt, (s, (scale, tt)), (v ∷ [], (x ∷ [], tt))), tt)
 
-    exits : (r : Row) (w : Val) → rowFour r ≡ inARow scale s.now → Is Rows.the_row r (w ∷ []) → ent 𝓤 (⋆ 𝓛 (‵ (flft κ q) ∷ ‵ ftrue ∷ [])) (Post w)
+    exits : (r : Row) (w : Val) → row_four r ≡ in_a_row scale s.now → Is Rows.the_row r (w ∷ []) → ent 𝓤 (⋆ 𝓛 (‵ (flft κ q) ∷ ‵ ftrue ∷ [])) (Post w)
     exits r w e is =
         qed 𝓛 (‵ (flft κ q) ∷ ‵ ftrue ∷ []) ∵ suffices ! _ (ends_at 𝓛 in_a_row.ended stayed (in_a_row.clauses 𝓛 mem run) (((κ, tt), (q, tt), tt, (s, (scale, tt)), (v ∷ [], (x ∷ [], tt))), tt) w r (tt, (tt, tt)) (tt, (tt, tt))) $
         says ! e $ join ! $ frame ! $ nothing ! $ nothing ! $ fjoin ! $ nothing ! $ fjoin ! $ frame ! $ owned ! Rows.the_row (Is Rows.the_row) (LL.makes Rows.the_type Rows'.the_plain 𝓛) r (w ∷ []) is $ done !
@@ -148,23 +148,23 @@ module _ {M : Type 1} {𝓤 : Ura M} (𝓛 : Logic 𝓤) (mem : Memory → SProp
           -- [_3's cell; what the Unpacker owns; the token; nothing; _13; …; _12; …; _11; …; _10; …; _9; …; _8; …; _7; …; _6; …; _5; …; _4; …; …; _2; …; _1; …; _0; …]
           -- `unpack_u8`
           assigns ! (addr ! (from ! (stop !))) (from ! (stop !)) (init ! 12 refl (tt, tt)) $
-          reads ofU8 unpackedU8 [] tt tt (λ κs es. unsignedRead 1) κ q l₃ (fresh s) (λ κs. tt) (λ κs. tt) ! fm known.byte (λ κs. id⊢ 𝓤 (emp 𝓤)) (λ ν γ. and_then ! (load ! (from ! (stop !)) (look ! 12 refl)) (no_more !)) (λ ν d₁ e₁ is₁.
-          land ! (from ! (stop !)) (init ! 22 refl (answer_typed ofU8 𝓛 d₁ _ is₁)) $
+          reads of_u8 unpacked_u8 [] tt tt (λ κs es. unsigned_read 1) κ q l₃ (fresh s) (λ κs. tt) (λ κs. tt) ! fm known.byte (λ κs. id⊢ 𝓤 (emp 𝓤)) (λ ν γ. and_then ! (load ! (from ! (stop !)) (look ! 12 refl)) (no_more !)) (λ ν d₁ e₁ is₁.
+          land ! (from ! (stop !)) (init ! 22 refl (answer_typed of_u8 𝓛 d₁ _ is₁)) $
           -- `unpack_c_string_39`
           assigns ! (addr ! (from ! (stop !))) (from ! (stop !)) (init ! 10 refl (tt, tt)) $
-          reads ofName39 named39 [] tt tt (λ κs es. nameRead 39) κ q l₃ (moved (fresh s) d₁.pos) (λ κs. tt) (λ κs. tt) ! fm known.name (λ κs. id⊢ 𝓤 (emp 𝓤)) (λ ν γ. and_then ! (load ! (from ! (stop !)) (look ! 10 refl)) (no_more !)) (λ ν d₂ e₂ is₂.
-          land ! (from ! (stop !)) (init ! 20 refl (answer_typed ofName39 𝓛 d₂ _ is₂)) $
+          reads of_name39 named39 [] tt tt (λ κs es. name_read 39) κ q l₃ (moved (fresh s) d₁.pos) (λ κs. tt) (λ κs. tt) ! fm known.name (λ κs. id⊢ 𝓤 (emp 𝓤)) (λ ν γ. and_then ! (load ! (from ! (stop !)) (look ! 10 refl)) (no_more !)) (λ ν d₂ e₂ is₂.
+          land ! (from ! (stop !)) (init ! 20 refl (answer_typed of_name39 𝓛 d₂ _ is₂)) $
           -- `unpack_u32`
           assigns ! (addr ! (from ! (stop !))) (from ! (stop !)) (init ! 8 refl (tt, tt)) $
-          reads ofU32 unpackedU32 [] tt tt (λ κs es. unsignedRead 4) κ q l₃ (moved (fresh s) d₂.pos) (λ κs. tt) (λ κs. tt) ! fm known.number (λ κs. id⊢ 𝓤 (emp 𝓤)) (λ ν γ. and_then ! (load ! (from ! (stop !)) (look ! 8 refl)) (no_more !)) (λ ν d₃ e₃ is₃.
-          land ! (from ! (stop !)) (init ! 18 refl (answer_typed ofU32 𝓛 d₃ _ is₃)) $
+          reads of_u32 unpacked_u32 [] tt tt (λ κs es. unsigned_read 4) κ q l₃ (moved (fresh s) d₂.pos) (λ κs. tt) (λ κs. tt) ! fm known.number (λ κs. id⊢ 𝓤 (emp 𝓤)) (λ ν γ. and_then ! (load ! (from ! (stop !)) (look ! 8 refl)) (no_more !)) (λ ν d₃ e₃ is₃.
+          land ! (from ! (stop !)) (init ! 18 refl (answer_typed of_u32 𝓛 d₃ _ is₃)) $
           -- `unpack_f32`
           assigns ! (addr ! (from ! (stop !))) (from ! (stop !)) (init ! 6 refl (tt, tt)) $
-          reads ofF32 unpackedF32 taken (yes, tt) dropped (λ κs es. scaledRead 4 es.0) κ q l₃ (moved (fresh s) d₃.pos) (λ κs. (scale, tt)) (λ κs. (x ∷ [], tt)) ! fm known.scale (λ κs. had)
+          reads of_f32 unpacked_f32 taken (yes, tt) dropped (λ κs es. scaled_read 4 es.0) κ q l₃ (moved (fresh s) d₃.pos) (λ κs. (scale, tt)) (λ κs. (x ∷ [], tt)) ! fm known.scale (λ κs. had)
           (λ ν γ. and_then ! (load ! (from ! (stop !)) (look ! 6 refl)) (and_then ! (load ! (from ! (stop !)) (look ! 25 refl)) (no_more !))) (λ ν d₄ e₄ is₄.
-          land ! (from ! (stop !)) (init ! 16 refl (answer_typed ofF32 𝓛 d₄ _ is₄)) $
+          land ! (from ! (stop !)) (init ! 16 refl (answer_typed of_f32 𝓛 d₄ _ is₄)) $
           -- the row
-          assigns ! (of_opd ! (load ! (from ! (fld ! refl (stop !))) (look_in ! 0 (sub ! 1 refl (whole !))))) (from ! (stop !)) (init ! 4 refl (tt, record { fits = pos-fits ofF32 d₄ _ is₄ })) $
+          assigns ! (of_opd ! (load ! (from ! (fld ! refl (stop !))) (look_in ! 0 (sub ! 1 refl (whole !))))) (from ! (stop !)) (init ! 4 refl (tt, record { fits = pos-fits of_f32 d₄ _ is₄ })) $
           assigns ! (agg ! (and_then ! (load ! (from ! (stop !)) (look ! 22 refl)) (and_then ! (load ! (from ! (stop !)) (look ! 20 refl))
           (and_then ! (load ! (from ! (stop !)) (look ! 18 refl)) (and_then ! (load ! (from ! (stop !)) (look ! 16 refl))
           (and_then ! (load ! (from ! (stop !)) (look ! 4 refl)) (no_more !))))))) (from ! (stop !))
@@ -174,7 +174,7 @@ module _ {M : Type 1} {𝓤 : Ura M} (𝓛 : Logic 𝓤) (mem : Memory → SProp
           move ! (29 ∷ 30 ∷ []) $ free1 ! $ move ! (27 ∷ 28 ∷ []) $ free1 ! $ move ! (25 ∷ 26 ∷ []) $ free1 ! $ move ! (0 ∷ 24 ∷ []) $ free1 ! $ move ! (21 ∷ 22 ∷ []) $ free1 ! $
           move ! (19 ∷ 20 ∷ []) $ free1 ! $ move ! (17 ∷ 18 ∷ []) $ free1 ! $ move ! (15 ∷ 16 ∷ []) $ free1 ! $ move ! (13 ∷ 14 ∷ []) $ free1 ! $ move ! (11 ∷ 12 ∷ []) $ free1 ! $
           move ! (9 ∷ 10 ∷ []) $ free1 ! $ move ! (7 ∷ 8 ∷ []) $ free1 ! $ move ! (5 ∷ 6 ∷ []) $ free1 ! $ move ! (3 ∷ 4 ∷ []) $ free1 ! $ free0 ! $
-          keep ! (1 ∷ 2 ∷ []) $ by ! (exits (row d₁ d₂ d₃ d₄) (rowValue d₁ d₂ d₃ d₄) (row_reads d₁ d₂ d₃ d₄ scale s.now e₁ e₂ e₃ e₄) (row_is d₁ d₂ d₃ d₄ is₁ is₂ is₃ is₄)))))))))))))))))))))
+          keep ! (1 ∷ 2 ∷ []) $ by ! (exits (row d₁ d₂ d₃ d₄) (row_value d₁ d₂ d₃ d₄) (row_reads d₁ d₂ d₃ d₄ scale s.now e₁ e₂ e₃ e₄) (row_is d₁ d₂ d₃ d₄ is₁ is₂ is₃ is₄)))))))))))))))))))))
 
   in-a-row-meets : (𝓣 : Tables 𝓤 H) → Known 𝓛 𝓣.C mem run → Meets 𝓛 in_a_row.signature (WpFn 𝓤 H 𝓣.C 𝓣.Λ code.function) (in_a_row.spec 𝓛 mem run)
   in-a-row-meets 𝓣 known =

@@ -2,9 +2,9 @@
 use contract.Running.{tables, tables_of}
 use denote.Triple.Spec.{triple_of}
 use denote.Triple.Table.{entered, cited}
-use Rattle.packer.specs.Unpacking.{unpackedU8}
-use Rattle.unpacker.specs.Unpacker.{unsignedRead}
-use Rattle.unpacker.proofs.Sorts.{ofU8}
+use Rattle.packer.specs.Unpacking.{unpacked_u8}
+use Rattle.unpacker.specs.Unpacker.{unsigned_read}
+use Rattle.unpacker.proofs.Sorts.{of_u8}
 use Rattle.unpacker.proofs.Unpacker.unpack_u8.Symbol as method
 use Rattle.unpacker.proofs.Unpacker.unpack_u8.Met as method-thm
 use Rattle.replay.proofs.ReadAt.{MethodTriple, read_meets}
@@ -18,5 +18,5 @@ unfolding code.routine tables_of
 u8-at-spec 𝓤 𝓛 𝓜 𝓡 =
     entered 𝓤 𝓛.H (triple_of 𝓛 at.signature (at.spec 𝓛 𝓜.mem 𝓡.run))
     (tables 𝓤 𝓛.H 𝓜 𝓡 code.env).C (tables 𝓤 𝓛.H 𝓜 𝓡 code.env).Λ key.name code.function (code.unfolded 𝓤 𝓛.H 𝓜 𝓡)
-    (read_meets ofU8 unpackedU8 (unsignedRead 1) 𝓛 method.name (tables_of 𝓤 𝓛.H 𝓜 (tables 𝓤 𝓛.H 𝓜 𝓡 code.env))
-    (cited 𝓤 𝓛.H (MethodTriple ofU8 unpackedU8 (unsignedRead 1) 𝓛) 𝓜 𝓡 code.env method.name method.routine code.calls-unpacker::Unpacker::unpack-u8 (method-thm.met 𝓤 𝓛 𝓜 𝓡)))
+    (read_meets of_u8 unpacked_u8 (unsigned_read 1) 𝓛 method.name (tables_of 𝓤 𝓛.H 𝓜 (tables 𝓤 𝓛.H 𝓜 𝓡 code.env))
+    (cited 𝓤 𝓛.H (MethodTriple of_u8 unpacked_u8 (unsigned_read 1) 𝓛) 𝓜 𝓡 code.env method.name method.routine code.calls-unpacker::Unpacker::unpack-u8 (method-thm.met 𝓤 𝓛 𝓜 𝓡)))
