@@ -34,9 +34,9 @@ oracle:
 
 # Makes the stored cases and the Rust's answers to them anew.
 answers: oracle
-	@target/oracle/build/release/answers crates/replay numbers unpackers commands replies streams gateway late readers writers faults
+	@target/oracle/build/release/answers crates/replay numbers unpackers commands replies streams gateway late readers faults
 
-# Compares with the Rust over fresh random cases; so many ENCODES four times, commands written, command frames read, raw replies read and raw replies written, and SEQUENCES of calls three times, without the gateway feed, with it, and over late frames: make compare SEED=7 DECODES=2000000 ENCODES=200000 SEQUENCES=20000 READS=1000000
+# Compares with the Rust over fresh random cases; so many ENCODES twice, commands written and command frames read, and SEQUENCES of calls three times, without the gateway feed, with it, and over late frames: make compare SEED=7 DECODES=2000000 ENCODES=200000 SEQUENCES=20000 READS=1000000
 SEED ?= 1
 DECODES ?= 20000
 ENCODES ?= 2000
@@ -47,7 +47,7 @@ compare: oracle
 	@target/oracle/build/release/answers compare $(SEED) $(DECODES) $(ENCODES) $(SEQUENCES) $(READS) tools/run replay
 	@oracle/lines $(SEED)
 
-# Shows that the same comparison finds wrong variants of the Rust, and of the references for the gateway feed, the masks, the reader of command frames and raw replies, each by name.
+# Shows that the same comparison finds wrong variants of the Rust, and of the references for the gateway feed, the masks and the reader of command frames, each by name.
 variants: oracle
 	@mkdir -p target && rt check replay > target/compare.log 2>&1 || { cat target/compare.log >&2; exit 1; }
 	@SEED=$(SEED) oracle/variants $(DECODES) $(ENCODES) $(SEQUENCES) $(READS)

@@ -1,18 +1,17 @@
 -- The bytes of a frame that was read: its payload is the hop part and the command's bytes.
 use mathlib.Core.Bool.{false}
 use mathlib.Core.Path.{◌≡◌, refl, sym, ap, ◌∙◌}
-use mathlib.Core.List.{List, ◌++◌}
-use Prim.Native.Nat.{ℕ, ◌+◌, ◌≤◌}
+use mathlib.Core.List.{List, [], ◌∷◌, ◌++◌}
+use Prim.Native.Nat.{ℕ, zero, suc, ◌+◌, ◌≤◌, ◌<◌}
 use native.Mathlib.Omega.{arith}
-use lib.ListN.{length, take, drop, take-append-drop}
-use lib.Seq.{take_at, take-take, drop-append_seam}
+use lib.ListN.{length, get_or, take, drop, take-append-drop}
+use lib.Seq.{take_at, take-take, get_or-drop, drop-append_seam}
 use Rattle.refusals.specs.Refusals.{ok}
 use Rattle.format.specs.Format.{payload_max}
 use Rattle.packer.specs.Nearness.{Bytes}
 use Rattle.frame.specs.Frame.{short, frame_of, frame_size, declared, payload_in}
 use Rattle.frame.proofs.Laws.{frame-laws}
 use Rattle.frame.proofs.Opened.{open-laws}
-use Rattle.frame.proofs.Places.{bytes_drop, payload-bytes}
 use Rattle.raw_command.specs.Commands.{Plain, form_of, bytes_in}
 use Rattle.raw_command.specs.Reading.{is_forward}
 use Rattle.raw_command.specs.Laws.{Fits}
@@ -21,6 +20,17 @@ use Rattle.command_reader.specs.Reader.{hop_size, CommandFrame, read_of, hop_par
 use Rattle.command_reader.specs.Laws.{ReadAs}
 use Rattle.command_reader.proofs.Hops.{OfForm, hops-within, hops-in-front, other-front}
 use Rattle.command_reader.proofs.Reading.{OpenedAt, opened-at, ReadFrom, read-given, given-read}
+
+-- ---- the bytes of a part are bytes
+
+taken-byte : (n : ℕ) (s : List ℕ) (at : ℕ) → Bytes s → get_or (take n s) at 0 < 256
+taken-byte zero s at b = omega arith
+taken-byte (suc n) [] at b = omega arith
+taken-byte (suc n) (first ∷ s) zero b = b 0
+taken-byte (suc n) (first ∷ s) (suc at) b = taken-byte n s at (λ k. b (suc k))
+
+bytes_drop : (n : ℕ) (s : List ℕ) → Bytes s → Bytes (drop n s)
+bytes_drop n s b at = rw (get_or-drop n s at 0) (b (n + at))
 
 -- ---- a frame that was read
 
@@ -45,7 +55,7 @@ module _ (s : List ℕ) (frame : CommandFrame) (read : read_of s ≡ ok frame) w
     unfolding payload_in
     behind-hops =
         raw_laws.read (drop (hop_size (payload_in short s)) (payload_in short s))
-        (bytes_drop (hop_size (payload_in short s)) (payload_in short s) (payload-bytes s b))
+        (bytes_drop (hop_size (payload_in short s)) (payload_in short s) (λ k. taken-byte (declared short s) (drop 2 s) k (bytes_drop 2 s b)))
         frame.plain from.plain
 
     pub payload-is : payload_in short s ≡ hop_part_of s ++ bytes_in frame.plain

@@ -1,15 +1,18 @@
 -- What writing a command back answers and leaves: a law for each way out of `write_command`.
 use mathlib.Core.Path.{◌≡◌, refl, sym, ap, ◌∙◌}
-use mathlib.Core.List.{List, ◌++◌}
-use Prim.Native.Nat.{ℕ, ◌+◌, ◌≤◌, ◌<◌}
+use mathlib.Core.List.{List, ◌++◌, append_assoc, append-nil}
+use Prim.Native.Nat.{ℕ, ◌+◌, ◌-◌, ◌≤◌, ◌<◌}
 use native.Mathlib.Omega.{arith}
-use lib.ListN.{length, length-append}
+use lib.ListN.{length, take, drop, length-append, length-drop, drop_of_length-le}
+use lib.Seq.{take-length, length-take-le, drop-drop}
 use borrow.Author.Tests.{eq-eqb, ne_eqb}
 use Rattle.refusals.specs.Refusals.{Answer, ok, refused, invalid_frame, payload_too_long, buffer_too_small}
 use Rattle.refusals.specs.declared.WriteBackError.TheVariants as e
 use Rattle.format.specs.Format.{payload_at, payload_max}
-use Rattle.packer.specs.Packing.{PackIs, packed}
+use Rattle.packer.specs.Packing.{written, PackIs, packed}
 use Rattle.packer.specs.declared.Packed.{Packed}
+use Rattle.packer.specs.declared.Packed.TheVariants.{Next}
+use Rattle.packer.proofs.Writes.{fits-answer, fits_after}
 use Rattle.frame.specs.Frame.{short, frame_of, frame_size}
 use Rattle.frame.specs.Wrapping.{wrap_answer, held_after, WrapIs}
 use Rattle.frame.proofs.Wrapped.{answer-too-long, answer-too-small, answer-fits, payload-wrapped}
@@ -61,3 +64,18 @@ module _ (hops : List ℕ) (command : RawCommand) where
           let long : n ≡ length payload = omega (arith, payload-size) in
           let done = payload-wrapped payload (omega arith) (omega arith) written long v in
           write-is (ok (frame_size short (length payload))) (by-wrap ∙ answer-fits (length payload) (length l) (omega arith) (omega arith)) (says ∙ done.0) done.1
+
+-- ---- the hop part, copied to its place
+
+pub copied : (l hops part : List ℕ) (end : ℕ) → end ≡ payload_at + length hops → end ≤ length l
+    → part ≡ take (length hops) hops ++ drop (length hops) (take (end - payload_at) (drop payload_at l))
+    → PackIs hops l payload_at (Next end) (take payload_at l ++ (part ++ drop (end - payload_at) (drop payload_at l)))
+unfolding written
+copied l hops part end at inside is =
+    let short : length (take (end - payload_at) (drop payload_at l)) ≤ length hops = omega (arith, length-take-le (end - payload_at) (drop payload_at l) (simp length-drop (omega arith))) in
+    let all : part ≡ hops = is ∙ rw (take-length hops, drop_of_length-le (take (end - payload_at) (drop payload_at l)) {i = length hops} short) (append-nil hops) in
+    let size : end - payload_at ≡ length hops = omega arith in
+    record {
+      answer = ap ok at ∙ sym (fits-answer hops l payload_at (omega arith));
+      holds = rw (all, size, drop-drop (length hops) payload_at l) (sym (append_assoc (take payload_at l) hops _)) ∙ sym (fits_after hops l payload_at (omega arith));
+    }

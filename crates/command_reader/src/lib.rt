@@ -114,8 +114,9 @@ fn pack_payload(hops: &[u8], parts: Parts, buf: &mut [u8]) -> Packed
     requires { payload_at + length hops.now + 1 + parts.width ≤ length buf.old }
     ensures { PackIs (hops.now ++ parts_bytes parts) buf.old payload_at result buf.new }
 {
-    packer::pack_bytes(buf, PAYLOAD_AT, hops);
-    raw_command::pack_parts(parts, buf, PAYLOAD_AT + hops.len())
+    let end = PAYLOAD_AT + hops.len();
+    bytes::copy(hops, &mut buf[PAYLOAD_AT..end]);
+    raw_command::pack_parts(parts, buf, end)
 }
 
 // What `frame::wrap` answered, as `write_command` answers it.

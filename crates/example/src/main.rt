@@ -2,8 +2,8 @@
 use libc::STDOUT_FILENO;
 use packer::UnpackedI32;
 use vesc::{
-    Command, Consumed, Decoder, Encoded, Kind, RawCommand, ReplyWritten, StatsMask, Taken,
-    ValuesMask, ValuesSetupMask, WrittenBack,
+    Command, Consumed, Decoder, Encoded, Kind, RawCommand, StatsMask, Taken, ValuesMask,
+    ValuesSetupMask, WrittenBack,
 };
 
 fn say(what: &[u8], number: u64) {
@@ -130,25 +130,6 @@ fn reading(sent: &[u8]) {
     }
 }
 
-// What stands in for a controller answers a query: 1234 rpm and 43.2 volts, as far as the mask has them. No frame of a
-// reply is longer than 110 bytes.
-fn answering(mask: u32) {
-    let mut reply = vesc::blank_reply(Kind::GetValuesSelective);
-    let mut values = reply.values;
-    values.mask = mask;
-    values.rpm = 1234;
-    values.voltage_in = 432;
-    reply.values = values;
-    let mut buf = [0u8; 110];
-    match vesc::write_reply(reply, &mut buf) {
-        ReplyWritten::Written(count) => {
-            say(b"bytes to answer with: ", count as u64);
-            decoding(&buf);
-        }
-        ReplyWritten::Refused(e) => say(b"refusal ", e.number() as u64),
-    }
-}
-
 // Asks until nothing comes. A loop must be seen to end: the decoder's 512 bytes hold fewer frames than `turns`.
 fn asked(start: Decoder) -> Decoder {
     let mut decoder = start;
@@ -233,9 +214,6 @@ fn main() {
     seconds(&[2, 9, 128, 255, 255, 4, 0, 66, 200, 0, 0, 132, 143, 3]);
     reading(&[2, 7, 34, 7, 6, 0, 0, 5, 220, 254, 213, 3]);
     reading(&[2, 3, 34, 7, 99, 45, 244, 3]);
-    answering(ValuesMask::RPM | ValuesMask::VOLTAGE_IN);
-    answering(ValuesMask::RPM);
-    answering(ValuesMask::RPM | 1 << 22);
     let decoder = received(Decoder::new(), &[255, 2, 1, 129]);
     let after = received(decoder, &[129, 169, 3, 2, 1]);
     charted(after);

@@ -1,2 +1,1 @@
 pub mod Firmware
-pub mod Raw

@@ -1,14 +1,13 @@
 // Firmware version and build information. Ports `FwVersion` and `FwInfo` of src/command.rs with their readers; the texts of
-// their names are the crate `text`'s, over the lent name bytes. Document 02, W4: a raw record, "flag and kind bytes as
-// carried"; the bytes are read into it alone, and `FwVersion` is made from it. A payload that ends early reads as if zeros
-// followed; a good frame's never does (judge/specs/Good.antt).
-ghost use Rattle.std.specs.Prelude.{◌≡◌, [], ◌∷◌, replicate};
+// their names are the crate `text`'s, over the lent name bytes. A payload that ends early reads as if zeros followed; a good
+// frame's never does (judge/specs/Good.antt).
+ghost use Rattle.std.specs.Prelude.{◌≡◌, [], ◌∷◌, ◌≤◌, length, replicate, get_or};
 ghost use Rattle.refusals.specs.Refusals.{consumed};
 ghost use Rattle.refusals.specs.Answers.{place_or};
 ghost use Rattle.packer.specs.Numbers.{numbers_at};
 ghost use Rattle.layout.specs.Layout.{raws};
 ghost use Rattle.layout.specs.Replies.{fw_version_rest};
-ghost use Rattle.firmware.specs.Firmware.{raw_version_by, version_from, raw_version_of, fw_version_of, fw_info_of, no_raw_fw_version, no_fw_version, no_fw_info};
+ghost use Rattle.firmware.specs.Firmware.{flag_of, version_by, fw_version_of, fw_info_of, no_fw_version, no_fw_info};
 
 use codes::{HwType, QmlHw};
 use refusals::Consumed;
@@ -32,26 +31,7 @@ pub struct FwVersion {
     pub hw_crc: u32,
 }
 
-// The same, each flag and kind as the byte that was carried.
-#[derive(Drop)]
-pub struct RawFwVersion {
-    pub major: u8,
-    pub minor: u8,
-    pub hw_name: [u8; format::FW_VERSION_NAME_MAX_LEN],
-    pub uuid: [u8; 12],
-    pub pairing_done: u8,
-    pub test_version_number: u8,
-    pub hw_type: u8,
-    pub custom_config_num: u8,
-    pub has_phase_filters: u8,
-    pub qml_hw: u8,
-    pub qml_app: u8,
-    pub nrf_flags: u8,
-    pub fw_name: [u8; format::FW_VERSION_NAME_MAX_LEN],
-    pub hw_crc: u32,
-}
-
-// Firmware build information. It has no flag and no kind, so it is its own raw record.
+// Firmware build information.
 #[derive(Drop)]
 pub struct FwInfo {
     pub major: u8,
@@ -59,6 +39,13 @@ pub struct FwInfo {
     pub test_version_number: u8,
     pub commit_hash: [u8; format::FW_INFO_COMMIT_HASH_MAX_LEN],
     pub user_commit_hash: [u8; format::FW_INFO_COMMIT_HASH_MAX_LEN],
+}
+
+// A true flag is a nonzero byte.
+fn flag_at(payload: &[u8], at: usize) -> bool
+    ensures { result ≡ flag_of (get_or payload.now at 0) }
+{
+    tables::byte_at(payload, at) != 0
 }
 
 // The place after a name; after a refused one the end, so that nothing more is read.
@@ -85,30 +72,30 @@ fn uuid_of(part: &[u8]) -> [u8; 12]
 }
 
 // The fields after hw_name: their places in the part do not depend on the name.
-fn raw_fw_version_after(
+fn fw_version_after(
     major: u8,
     minor: u8,
     hw_name: [u8; format::FW_VERSION_NAME_MAX_LEN],
     rest: &[u8],
-) -> RawFwVersion
-    ensures { result ≡ raw_version_by ((major ∷ minor ∷ []), (hw_name, raws fw_version_rest rest.now 0)) }
+) -> FwVersion
+    ensures { result ≡ version_by ((major ∷ minor ∷ []), (hw_name, raws fw_version_rest rest.now 0)) }
 {
     let fw = names::unpack_c_string_39(rest, 20);
     let fw_name = fw.bytes;
     let answer = fw.answer;
     let end = end_of(answer, rest.len());
     let uuid = uuid_of(rest);
-    RawFwVersion {
+    FwVersion {
         major,
         minor,
         hw_name,
         uuid,
-        pairing_done: tables::byte_at(rest, 12),
+        pairing_done: flag_at(rest, 12),
         test_version_number: tables::byte_at(rest, 13),
-        hw_type: tables::byte_at(rest, 14),
+        hw_type: codes::hw_type(tables::byte_at(rest, 14)),
         custom_config_num: tables::byte_at(rest, 15),
-        has_phase_filters: tables::byte_at(rest, 16),
-        qml_hw: tables::byte_at(rest, 17),
+        has_phase_filters: flag_at(rest, 16),
+        qml_hw: codes::qml_hw(tables::byte_at(rest, 17)),
         qml_app: tables::byte_at(rest, 18),
         nrf_flags: tables::byte_at(rest, 19),
         fw_name,
@@ -117,8 +104,8 @@ fn raw_fw_version_after(
 }
 
 // The part after hw_name is handed on from the payload's middle.
-pub fn unpack_raw_fw_version(payload: &[u8]) -> RawFwVersion
-    ensures { result ≡ raw_version_of payload.now }
+pub fn unpack_fw_version(payload: &[u8]) -> FwVersion
+    ensures { result ≡ fw_version_of payload.now }
 {
     let hw = names::unpack_c_string_39(payload, 3);
     let hw_name = hw.bytes;
@@ -126,38 +113,7 @@ pub fn unpack_raw_fw_version(payload: &[u8]) -> RawFwVersion
     let end = end_of(answer, payload.len());
     let major = tables::byte_at(payload, 1);
     let minor = tables::byte_at(payload, 2);
-    raw_fw_version_after(major, minor, hw_name, &payload[end..])
-}
-
-// The flags and kinds that the carried bytes stand for; a true flag is a nonzero byte. The other fields as they are.
-pub fn fw_version_of(raw: RawFwVersion) -> FwVersion
-    ensures { result ≡ version_from raw }
-{
-    let hw_name = raw.hw_name;
-    let uuid = raw.uuid;
-    let fw_name = raw.fw_name;
-    FwVersion {
-        major: raw.major,
-        minor: raw.minor,
-        hw_name,
-        uuid,
-        pairing_done: raw.pairing_done != 0,
-        test_version_number: raw.test_version_number,
-        hw_type: codes::hw_type(raw.hw_type),
-        custom_config_num: raw.custom_config_num,
-        has_phase_filters: raw.has_phase_filters != 0,
-        qml_hw: codes::qml_hw(raw.qml_hw),
-        qml_app: raw.qml_app,
-        nrf_flags: raw.nrf_flags,
-        fw_name,
-        hw_crc: raw.hw_crc,
-    }
-}
-
-pub fn unpack_fw_version(payload: &[u8]) -> FwVersion
-    ensures { result ≡ fw_version_of payload.now }
-{
-    fw_version_of(unpack_raw_fw_version(payload))
+    fw_version_after(major, minor, hw_name, &payload[end..])
 }
 
 pub fn unpack_fw_info(payload: &[u8]) -> FwInfo
@@ -175,27 +131,6 @@ pub fn unpack_fw_info(payload: &[u8]) -> FwInfo
         test_version_number: tables::byte_at(payload, 3),
         commit_hash,
         user_commit_hash,
-    }
-}
-
-pub fn no_raw_fw_version() -> RawFwVersion
-    ensures { result ≡ no_raw_fw_version }
-{
-    RawFwVersion {
-        major: 0,
-        minor: 0,
-        hw_name: [0u8; format::FW_VERSION_NAME_MAX_LEN],
-        uuid: [0u8; 12],
-        pairing_done: 0,
-        test_version_number: 0,
-        hw_type: 0,
-        custom_config_num: 0,
-        has_phase_filters: 0,
-        qml_hw: 0,
-        qml_app: 0,
-        nrf_flags: 0,
-        fw_name: [0u8; format::FW_VERSION_NAME_MAX_LEN],
-        hw_crc: 0,
     }
 }
 

@@ -6,13 +6,10 @@ use Rattle.packer.specs.Packing.{packed}
 use Rattle.packer.specs.declared.Packed.{Packed}
 use Rattle.frame.specs.Frame.{short, frame_of, frame_size}
 
--- what a payload of n bytes into so much room answers, if its length can be said. The count of a success is that of its frame, "n + 5 bytes".
-abbrev pub room_answer : ℕ → ℕ → Answer ℕ
-room_answer n room = cond (ltb room (frame_size short n)) (refused buffer_too_small) (ok (frame_size short n))
-
--- "`encode` tests 6, then 5"
+-- "`encode` tests 6, then 5": what a payload of n bytes into so much room answers. The count of a success is that of its frame, "n + 5 bytes".
 unfoldable pub wrap_answer : ℕ → ℕ → Answer ℕ
-wrap_answer n room = cond (ltb payload_max n) (refused payload_too_long) (room_answer n room)
+wrap_answer n room =
+    cond (ltb payload_max n) (refused payload_too_long) (cond (ltb room (frame_size short n)) (refused buffer_too_small) (ok (frame_size short n)))
 
 -- the buffer after an answer: "on success the bytes past what was written are unchanged"; "nothing; buffer unchanged" on a refusal
 abbrev pub held_after : Answer ℕ → List ℕ → List ℕ → List ℕ

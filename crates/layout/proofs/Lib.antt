@@ -3,4 +3,3 @@ pub mod Steps
 pub mod Raws
 pub mod Replies
 pub mod Refusals
-pub mod BothWays

@@ -1,11 +1,11 @@
 -- A name is the same wherever its bytes stand, and bytes after it do not matter.
-use mathlib.Core.Path.{◌≡◌, refl, sym, ap}
+use mathlib.Core.Path.{◌≡◌, refl, sym, ap, ◌∙◌}
 use mathlib.Core.Bool.{Bool, true, false, cond}
-use mathlib.Core.List.{List, [], ◌∷◌}
+use mathlib.Core.List.{List, [], ◌∷◌, ◌++◌}
 use Prim.Native.Nat.{ℕ, zero, suc, ◌+◌, ◌-◌, ◌≤◌}
 use native.Mathlib.Omega.{arith}
 use lib.Dec.{eqb}
-use lib.ListN.{length, take, drop, length-drop}
+use lib.ListN.{length, take, drop, replicate, length-drop}
 use lib.Seq.{drop-drop, take-take}
 use Rattle.refusals.specs.Refusals.{Answer, ok, refused}
 use Rattle.refusals.specs.Answers.{place_or}
@@ -14,7 +14,7 @@ use Rattle.names.proofs.Places.{given-ends}
 use Rattle.names.proofs.Prefix.{drop-take, nul-own}
 
 -- an answer so many places on
-abbrev pub moved : ℕ → Answer ℕ → Answer ℕ
+abbrev moved : ℕ → Answer ℕ → Answer ℕ
 moved by (ok next) = ok (by + next)
 moved by (refused why) = refused why
 
@@ -24,7 +24,7 @@ moved_cond true here next by on further e same = ap ok e
 moved_cond false here next by on further e same = same
 
 -- a scan from a place that is counted from further back
-pub nul-moved : (room : ℕ) (left : List ℕ) (by place : ℕ) → nul_within room left (by + place) ≡ moved by (nul_within room left place)
+nul-moved : (room : ℕ) (left : List ℕ) (by place : ℕ) → nul_within room left (by + place) ≡ moved by (nul_within room left place)
 unfolding nul_within
 nul-moved zero left by place = refl
 nul-moved (suc room) [] by place = refl

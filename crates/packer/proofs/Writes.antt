@@ -1,12 +1,12 @@
 -- Writes of bytes into a slice: the digits of a number from its last on, a write where there is room, and two writes that are one.
 --
 use mathlib.Core.Path.{◌≡◌, refl, sym, ap, ◌∙◌}
-use mathlib.Core.List.{List, [], ◌∷◌, ◌++◌, append_assoc, append-nil}
+use mathlib.Core.List.{List, [], ◌∷◌, ◌++◌}
 use Prim.Native.Nat.{ℕ, zero, suc, ◌+◌, ◌-◌, ◌/◌, ◌%◌, ◌≤◌, ◌<◌}
 use native.Mathlib.Nat.{add-zero, add-suc, suc-add, not-suc-le-zero, mod-eq_of_lt}
 use native.Mathlib.Omega.{arith}
-use lib.ListN.{length, take, drop, set, length-append, length-drop, drop_of_length-le}
-use lib.Seq.{sets, sets-eq, length-sets, set_comm, take-length, length-take-le, drop-drop}
+use lib.ListN.{length, set, length-append}
+use lib.Seq.{sets, sets-eq, length-sets, set_comm}
 use borrow.Author.Tests.{le-leb, lt-leb}
 use Rattle.refusals.specs.Refusals.{ok, refused, buffer_too_small}
 use Rattle.packer.specs.Numbers.{big_endian}
@@ -72,20 +72,6 @@ full-after bytes l at h = rw (lt-leb (at + length bytes) (length l) h)
 
 pub full-packed : (bytes l : List ℕ) (at : ℕ) → length l < at + length bytes → PackIs bytes l at (Refused BufferTooSmall) l
 full-packed bytes l at h = record { answer = sym (full-answer bytes l at h); holds = sym (full-after bytes l at h) }
-
--- ---- bytes copied to their place, which ends at `end`; `part` is what the place then holds
-pub copied-packed : (bytes l part : List ℕ) (at end : ℕ) → end ≡ at + length bytes → end ≤ length l
-    → part ≡ take (length bytes) bytes ++ drop (length bytes) (take (end - at) (drop at l))
-    → PackIs bytes l at (Next end) (take at l ++ (part ++ drop (end - at) (drop at l)))
-unfolding written
-copied-packed bytes l part at end ends inside is =
-    let short : length (take (end - at) (drop at l)) ≤ length bytes = omega (arith, length-take-le (end - at) (drop at l) (simp length-drop (omega arith))) in
-    let all : part ≡ bytes = is ∙ rw (take-length bytes, drop_of_length-le (take (end - at) (drop at l)) {i = length bytes} short) (append-nil bytes) in
-    let size : end - at ≡ length bytes = omega arith in
-    record {
-      answer = ap ok ends ∙ sym (fits-answer bytes l at (omega arith));
-      holds = rw (all, size, drop-drop (length bytes) at l) (sym (append_assoc (take at l) bytes _)) ∙ sym (fits_after bytes l at (omega arith));
-    }
 
 -- ---- the digits of a number
 pub digits-packed : (width n : ℕ) (l : List ℕ) (at : ℕ) (after : List ℕ) → at + width ≤ length l → after ≡ written l at (big_endian width n)

@@ -1,25 +1,43 @@
 -- A value of each form as a number, and back.
-use mathlib.Core.Bool.{Bool, true, false, false≢true, ◌&&◌}
+use mathlib.Core.Bool.{Bool, true, false, false≢true, ◌&&◌, cond}
 use mathlib.Core.Path.{◌≡◌, refl}
 use mathlib.Core.List.{List, [], ◌∷◌, ◌++◌}
 use Prim.Native.Nat.{ℕ, zero, suc, ◌+◌, ◌-◌, ◌*◌, ◌/◌, ◌%◌, ◌^◌, ◌≤◌, ◌<◌}
 use native.Mathlib.Omega.{arith}
-use lib.Dec.{eqb, leb}
+use lib.Dec.{eqb, leb, ltb}
+use lib.IntN.{ℤ, pos, negsuc}
 use lib.ListN.{get_or, drop}
 use lib.Seq.{get_or-drop}
 use lib.Signed.{mag}
-use borrow.Author.Tests.{le-leb, leb-true}
+use borrow.Author.Tests.{lt-ltb, le-ltb, ltb-true, ltb-false, le-leb, leb-true}
 use Rattle.packer.specs.Numbers.{be_at, big_endian, signed_of, unsigned_of}
 use Rattle.packer.specs.Nearness.{Bytes}
-use Rattle.packer.proofs.Complement.{mag-below-half, signed_back, unsigned_back, unsigned-below}
 use Rattle.raw_command.specs.Commands.{Form, bare, flag, flags, half, word, signed, Value, flag_byte, number_of, width_of, most_of}
 use Rattle.raw_command.specs.Reading.{value_of, at_most}
 use Rattle.raw_command.specs.Laws.{Fits}
 
 -- ---- a signed number of 32 bits
 
+signed_back : (z : ℤ) → mag z < 2 ^ 31 → signed_of (256 ^ 4) (unsigned_of (256 ^ 4) z) ≡ z
+unfolding signed_of unsigned_of
+signed_back (pos n) fits = rw (lt-ltb (n * 2) (256 ^ 4) (omega arith))
+signed_back (negsuc n) fits =
+    let same : 256 ^ 4 - suc (256 ^ 4 - suc n) ≡ n = omega arith in
+    rw (le-ltb ((256 ^ 4 - suc n) * 2) (256 ^ 4) (omega arith), same)
+
 signed-number : (n : ℕ) → n < 256 ^ 4 → (mag (signed_of (256 ^ 4) n) < 2 ^ 31) × (unsigned_of (256 ^ 4) (signed_of (256 ^ 4) n) ≡ n)
-signed-number n fits = (mag-below-half (2 ^ 31) n fits, unsigned_back (2 ^ 31) n fits)
+unfolding signed_of unsigned_of
+signed-number n fits = go (ltb (n * 2) (256 ^ 4)) refl
+  where
+    go : (low : Bool) → ltb (n * 2) (256 ^ 4) ≡ low
+        → (mag (cond low (pos n) (negsuc (256 ^ 4 - suc n))) < 2 ^ 31) × (unsigned_of (256 ^ 4) (cond low (pos n) (negsuc (256 ^ 4 - suc n))) ≡ n)
+    go true e = let below = ltb-true (n * 2) (256 ^ 4) e in (omega arith, refl)
+    go false e = let above = ltb-false (n * 2) (256 ^ 4) e in (omega arith, omega arith)
+
+unsigned-below : (z : ℤ) → mag z < 2 ^ 31 → unsigned_of (256 ^ 4) z < 256 ^ 4
+unfolding unsigned_of
+unsigned-below (pos n) fits = omega arith
+unsigned-below (negsuc n) fits = omega arith
 
 -- ---- flags
 
@@ -78,7 +96,7 @@ number-below flag set fits = omega (arith, flag-most set)
 number-below flags (first, second) fits = omega (arith, flag-most first, flag-most second)
 number-below half n fits = omega arith
 number-below word n fits = omega arith
-number-below signed z fits = unsigned-below (2 ^ 31) z fits
+number-below signed z fits = unsigned-below z fits
 
 -- a value as a number is read as the value
 pub value-back : (form : Form) (value : Value form) → Fits form value → value_of form (number_of form value) ≡ value
@@ -88,7 +106,7 @@ value-back flag false fits = refl
 value-back flags (first, second) fits = flags-back first second
 value-back half n fits = refl
 value-back word n fits = refl
-value-back signed z fits = signed_back (2 ^ 31) z fits
+value-back signed z fits = signed_back z fits
 
 -- and none of its bytes is above what its form allows
 pub value-allowed : (form : Form) (value : Value form) → at_most (most_of form) (big_endian (width_of form) (number_of form value)) ≡ true

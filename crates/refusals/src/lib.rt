@@ -1,7 +1,7 @@
 // Why an answer is no. Ports `DecodeError` and `EncodeError` of src/command.rs; document 01, "Six
 // refusals", gives each its number and says what is returned with it. Document 02 adds the rest.
 ghost use Rattle.std.specs.Prelude.{◌≡◌};
-ghost use Rattle.refusals.specs.Refusals.{decode_refusal, encode_refusal, write_back_refusal, reply_write_refusal, feed_refusal};
+ghost use Rattle.refusals.specs.Refusals.{decode_refusal, encode_refusal, write_back_refusal, feed_refusal};
 
 // Why a slice is not read.
 #[derive(Drop)]
@@ -31,14 +31,6 @@ pub enum EncodeError {
 pub enum WriteBackError {
     InvalidFrame,
     PayloadTooLong,
-    BufferTooSmall,
-}
-
-// Why a reply is not written.
-#[derive(Drop)]
-pub enum ReplyWriteError {
-    UnknownMaskBits,
-    BadName,
     BufferTooSmall,
 }
 
@@ -86,19 +78,6 @@ impl WriteBackError {
             WriteBackError::InvalidFrame => 2,
             WriteBackError::PayloadTooLong => 6,
             WriteBackError::BufferTooSmall => 5,
-        }
-    }
-}
-
-impl ReplyWriteError {
-    // Document 02's number.
-    pub fn number(self) -> u8
-        ensures { result ≡ (reply_write_refusal self).number }
-    {
-        match self {
-            ReplyWriteError::UnknownMaskBits => 8,
-            ReplyWriteError::BadName => 7,
-            ReplyWriteError::BufferTooSmall => 5,
         }
     }
 }

@@ -11,7 +11,6 @@ mod shows;
 mod streams;
 mod thin;
 mod unpackers;
-mod writers;
 mod writes;
 
 use libc::STDIN_FILENO;
@@ -32,8 +31,6 @@ fn answer(text: &mut [u8], line: Line, letter: u8, case: &[u8], stream: &[u8]) -
         b'r' => replies::case(text, line, case),
         b'R' => readers::read(text, line, case),
         b'P' => readers::write(text, line, case),
-        b'Z' => writers::read(text, line, case),
-        b'K' => writers::write(text, line, case),
         b'M' => masks::case(text, line),
         b'H' => masks::asked(text, line, case),
         b'X' => unpackers::case(text, line, case),

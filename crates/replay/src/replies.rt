@@ -16,7 +16,7 @@ pub(crate) fn flag(value: bool) -> u32 {
     if value { 1 } else { 0 }
 }
 
-pub(crate) fn byte(value: u8) -> u32 {
+fn byte(value: u8) -> u32 {
     value as u32
 }
 
@@ -97,12 +97,7 @@ fn of_stats(s: Stats) -> [u32; 12] {
     ]
 }
 
-pub(crate) fn mix_words_and_name(
-    text: &mut [u8],
-    line: Line,
-    words: &[u32],
-    name: [u8; 39],
-) -> Line {
+fn mix_words_and_name(text: &mut [u8], line: Line, words: &[u32], name: [u8; 39]) -> Line {
     let now = shows::mix_words(text, line, words);
     shows::mix_bytes(text, now, &name)
 }
@@ -111,7 +106,7 @@ fn mix_name47(text: &mut [u8], line: Line, name: [u8; 47]) -> Line {
     shows::mix_bytes(text, line, &name)
 }
 
-pub(crate) fn mix_uuid(text: &mut [u8], line: Line, uuid: [u8; 12]) -> Line {
+fn mix_uuid(text: &mut [u8], line: Line, uuid: [u8; 12]) -> Line {
     shows::mix_bytes(text, line, &uuid)
 }
 
@@ -138,7 +133,7 @@ fn mix_fw_version(text: &mut [u8], line: Line, v: FwVersion) -> Line {
     shows::mix(text, named, v.hw_crc)
 }
 
-pub(crate) fn mix_fw_info(text: &mut [u8], line: Line, v: FwInfo) -> Line {
+fn mix_fw_info(text: &mut [u8], line: Line, v: FwInfo) -> Line {
     let commit_hash = v.commit_hash;
     let user_commit_hash = v.user_commit_hash;
     let front = [byte(v.major), byte(v.minor), byte(v.test_version_number)];

@@ -8,11 +8,11 @@ use native.Mathlib.Omega.{arith}
 use Rattle.packer.specs.Numbers.{be_at}
 use Rattle.packer.specs.Nearness.{Bytes}
 use Rattle.packer.proofs.Nearness.{number_small, scaled-near}
-use Rattle.tables.specs.Tables.{Coding, h, w, i, u, b, fault_byte, F, width_of, field, entry}
+use Rattle.tables.specs.Tables.{Coding, h, w, i, u, b, fault_byte, F, width_of, field}
 use Rattle.tables.specs.Sorts.{table_of}
 use Rattle.tables.specs.declared.Sort.{Sort}
 use Rattle.tables.proofs.Widths.{raw-present}
-use Rattle.telemetry.specs.Telemetry.{value_by, float_in}
+use Rattle.telemetry.specs.Telemetry.{value_by, float_in, entry}
 use Rattle.telemetry.specs.Records.{ByTable, RecordHolds}
 use Rattle.telemetry.specs.Nearness.{CodingNear, FieldsNear}
 use Rattle.telemetry.proofs.Scales.{coding_fits, positive, small, coding-fits}

@@ -5,10 +5,11 @@ use mathlib.Core.List.{List, [], ◌∷◌}
 use Prim.Native.Nat.{ℕ, zero, suc, ◌^◌, ◌≤◌, ◌<◌}
 use lib.Dec.{ltb, leb}
 use borrow.Author.Tests.{ltb-true, leb-true}
-use Rattle.tables.specs.Tables.{Coding, h, w, i, u, b, fault_byte, F, Field, entry}
+use Rattle.tables.specs.Tables.{Coding, h, w, i, u, b, fault_byte, F, Field}
 use Rattle.tables.specs.Sorts.{table_of}
 use Rattle.tables.specs.declared.Sort.{Sort}
 use Rattle.tables.specs.declared.Sort.TheVariants.{Values, SetupValues, Stats}
+use Rattle.telemetry.specs.Telemetry.{entry}
 
 abbrev fits : ℕ → Bool
 fits scale = ltb 0 scale && leb scale (2 ^ 24)

@@ -2,8 +2,8 @@
 use Rattle.std.specs.Prelude.{◌≡◌, true, ℕ, ◌+◌, ◌<◌, List, Float, length, take}
 use Rattle.packer.specs.Numbers.{total}
 use Rattle.packer.specs.Nearness.{ScaledNear}
-use Rattle.tables.specs.Tables.{Coding, h, w, i, u, b, fault_byte, F, Field, entry, has_bit, widths}
-use Rattle.telemetry.specs.Telemetry.{float_in}
+use Rattle.tables.specs.Tables.{Coding, h, w, i, u, b, fault_byte, F, Field, has_bit, widths}
+use Rattle.telemetry.specs.Telemetry.{entry, float_in}
 use Rattle.telemetry.specs.Records.{ByTable, field_in}
 
 -- the bound, of a field whose bytes begin at a place, if its kind is h_s or w_s; the other kinds are not scaled, and nothing is claimed of them

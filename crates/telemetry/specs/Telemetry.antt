@@ -5,7 +5,7 @@ use Rattle.std.specs.Float.{binary32}
 use Rattle.std.specs.Float.Ieee.{of_int, of_bits}
 use Rattle.floats.specs.Numbers.{over_scale}
 use Rattle.packer.specs.Numbers.{signed_of}
-use Rattle.tables.specs.Tables.{Coding, h, w, i, u, b, fault_byte, F, Field, values_table, setup_table, stats_table, entry}
+use Rattle.tables.specs.Tables.{Coding, h, w, i, u, b, fault_byte, F, Field, field, values_table, setup_table, stats_table}
 use Rattle.codes.specs.Codes.{fault_of}
 use Rattle.codes.specs.declared.FaultCode.{FaultCode}
 use Rattle.codes.specs.declared.FaultCode.TheVariants as FaultCode
@@ -33,6 +33,10 @@ value_by u raw = unsigned raw
 value_by b raw = unsigned (raw % 256)
 value_by fault_byte raw = fault (fault_of (raw % 256))
 value_by F raw = float (of_bits binary32 raw)
+
+-- the entry at a place of a table
+abbrev pub entry : List Field → ℕ → Field
+entry table k = get_or table k (field 0 b)
 
 -- the value of the field at a place, by its entry and its raw number
 abbrev pub field_at : List Field → List ℕ → ℕ → FieldValue

@@ -2,7 +2,7 @@
 //! differs is shown with its bytes and both answers whole, field by field.
 
 use crate::lateness::{self, Tally};
-use crate::{Block, Random, answer_to, commands, numbers, reader, replies, streams, unpackers, writer};
+use crate::{Block, Random, answer_to, commands, numbers, reader, replies, streams, unpackers};
 use std::io::Write;
 use std::process::{Command, Stdio};
 
@@ -155,24 +155,21 @@ pub fn run(args: &[String]) {
         std::process::exit(2);
     }
     let seed: u64 = number(seed, "the seed");
-    let [decodes, encodes, sequences, read]: [usize; 4] =
-        [(decodes, "DECODES"), (encodes, "ENCODES"), (sequences, "SEQUENCES"), (read, "READS")].map(|(text, what)| number(text, what));
     let mut random = Random(seed ^ 0x9E37_79B9_7F4A_7C15);
     println!("seed {seed}");
-    let sorts: [(&str, usize, usize, fn(&mut Block, &mut Random, usize)); 8] = [
+    let sorts: [(&str, &str, usize, fn(&mut Block, &mut Random, usize)); 7] = [
         ("reads, writes, names, masks", read, 50_000, reads),
         ("decode", decodes, 100_000, replies::some),
         ("encode", encodes, 50_000, commands::some),
         ("call sequences", sequences, 500, streams::some),
-        // these are the last, so that the sorts before them draw what they drew without them
+        // the last three, so that the sorts before them draw what they drew without them
         ("gateway sequences", sequences, 500, streams::gateway_some),
         ("lateness sequences", sequences, 3_000, lateness::some),
         ("command frames read", encodes, 50_000, reader::some),
-        // so many frames read raw, and so many raw records written
-        ("raw replies read and written", 2 * encodes, 50_000, writer::some),
     ];
     let mut all = 0;
     for (name, wanted, most, make) in sorts {
+        let wanted: usize = number(wanted, name);
         let (mut left, mut good, mut nans, mut differ) = (wanted, 0, 0, 0);
         let mut tally = Tally::default();
         while left > 0 {

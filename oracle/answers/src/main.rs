@@ -3,9 +3,9 @@
 //!     answers FOLDER BLOCK..     writes FOLDER/stdin (the cases) and FOLDER/stdout (the Rust's answers)
 //!
 //!     answers compare SEED DECODES ENCODES SEQUENCES READS PROGRAM..     fresh random cases, asked of the Rust and of our PROGRAM; so many
-//!                                                                         ENCODES four times, commands written, command frames read, raw
-//!                                                                         replies read and raw replies written, and SEQUENCES three
-//!                                                                         times: without the gateway feed, with it, and over late frames
+//!                                                                         ENCODES twice, commands written and command frames read, and
+//!                                                                         SEQUENCES three times: without the gateway feed, with it, and
+//!                                                                         over late frames
 //!     answers lateness SEED STREAMS                                       how late frames are given, by the distance of a false start
 //!     answers traffic BYTES FILE [SEED]                                   so many bytes of frames and noise
 //!     answers line                                                        the Rust's decoder in the place of `vescline`: prints the same
@@ -33,7 +33,6 @@ mod reader;
 mod replies;
 mod streams;
 mod unpackers;
-mod writer;
 
 use answer::Answer;
 
@@ -82,8 +81,6 @@ pub fn answer_to(letter: u8, case: &[u8], stream: &[u8], whole: bool) -> Answer 
         b'r' => replies::answer(&mut answer, case),
         b'R' => reader::read_back(&mut answer, case),
         b'P' => reader::put_together(&mut answer, case),
-        b'Z' => writer::read_back(&mut answer, case),
-        b'K' => writer::put(&mut answer, case),
         b'M' => commands::masks(&mut answer),
         b'H' => commands::asked(&mut answer, case),
         b'T' => numbers::text(&mut answer, case),
@@ -138,8 +135,8 @@ pub fn number(error: &DecodeError) -> u8 {
 fn faults() -> Block {
     let mut block = Block::default();
     block.case(b'?', &[]);
-    block.case(b'Q', &[1, 2, 3]);
-    for letter in *b"bsutihwFnmdBSUIWXYHPK" {
+    block.case(b'Z', &[1, 2, 3]);
+    for letter in *b"bsutihwFnmdBSUIWXYHP" {
         block.case(letter, &[0x3F, 0x80, 0]);
     }
     for letter in *b"BSUIW" {
@@ -148,8 +145,6 @@ fn faults() -> Block {
     block.case(b'c', &[1, 0, 0, 0, 0, 0]);
     block.case(b'C', &[0, 0, 0, 0]);
     block.case(b'X', &[0x3F, 0x80, 0, 0, 0, 3, 0, 0]);
-    // a record that lacks its last byte
-    block.case(b'K', &[&[157, 0, 0, 108][..], &[0; 96]].concat());
     block.cases.extend([b'r', 0, 6, 2, 1, 129]);
     block.answers.push_str("input cut short after 6 bytes of a case\n");
     block.count += 1;
@@ -167,7 +162,7 @@ fn main() {
         _ => {}
     }
     let (Some(folder), true) = (args.get(1), args.len() > 2) else {
-        eprintln!("usage: answers FOLDER BLOCK..   the blocks: numbers unpackers commands replies streams gateway late readers writers faults");
+        eprintln!("usage: answers FOLDER BLOCK..   the blocks: numbers unpackers commands replies streams gateway late readers faults");
         std::process::exit(2);
     };
     let mut cases = vec![];
@@ -182,7 +177,6 @@ fn main() {
             "gateway" => streams::gateway_block(),
             "late" => lateness::block(),
             "readers" => reader::block(),
-            "writers" => writer::block(),
             "faults" => faults(),
             _ => {
                 eprintln!("answers: no block {block}");

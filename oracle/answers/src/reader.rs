@@ -16,16 +16,16 @@ use crate::replies::{damaged, framed, refused, summed};
 use crate::{Block, DecodeError, Random};
 
 /// As the Rust has it.
-pub const CRC16: crc::Crc<u16> = crc::Crc::<u16>::new(&crc::CRC_16_XMODEM);
+const CRC16: crc::Crc<u16> = crc::Crc::<u16>::new(&crc::CRC_16_XMODEM);
 /// `CommandId`, in the order of the commands' places; that of a hop is not among them.
 const IDS: [u8; COMMANDS as usize] = [0, 4, 5, 6, 7, 8, 9, 10, 29, 30, 50, 51, 84, 110, 128, 129, 156, 157, 159];
 const FORWARD: u8 = 34;
-pub const START: u8 = 2;
-pub const END: u8 = 3;
+const START: u8 = 2;
+const END: u8 = 3;
 
 /// Document 02's numbers of the writer's refusals.
 const INVALID_FRAME: u8 = 2;
-pub const BUFFER_TOO_SMALL: u8 = 5;
+const BUFFER_TOO_SMALL: u8 = 5;
 const PAYLOAD_TOO_LONG: u8 = 6;
 
 /// What a frame is read into. The hops are the front part of the payload.

@@ -250,7 +250,7 @@ pub fn masked(id: u8, mask: u32, mut bytes: impl FnMut(usize) -> Vec<u8>) -> Vec
 }
 
 /// The lowest bytes of a number, as many as a field is wide.
-pub fn lowest(number: i32, width: usize) -> Vec<u8> {
+fn lowest(number: i32, width: usize) -> Vec<u8> {
     number.to_be_bytes()[4 - width..].to_vec()
 }
 
@@ -279,7 +279,7 @@ pub fn fw_info(random: &mut Random, commit: usize, user: usize) -> Vec<u8> {
 }
 
 /// A length up to `most`; one in four is 0 or `most`.
-pub fn near_ends(random: &mut Random, most: usize) -> usize {
+fn near_ends(random: &mut Random, most: usize) -> usize {
     match random.below(8) {
         0 => 0,
         1 => most,
@@ -322,7 +322,7 @@ pub fn any(random: &mut Random) -> Vec<u8> {
 }
 
 /// The whole numbers' ends, those around 2^24, and the floats' ends by their bits.
-pub fn ends() -> Vec<i32> {
+fn ends() -> Vec<i32> {
     let mut all = vec![0, 1, -1, i32::MAX, i32::MIN, 32767, -32768, 0x7FFF_7FFF, -0x7FFF_8000];
     for step in -3..=3 {
         all.extend([(1 << 24) + step, -(1 << 24) + step]);
@@ -352,7 +352,7 @@ fn bit_changed(random: &mut Random, frame: &[u8]) -> Vec<u8> {
 }
 
 /// Several of the frame's own bytes changed at once, so that the order of the refusals shows; half of them cut somewhere too.
-pub fn several_changed(random: &mut Random, frame: &[u8]) -> Vec<u8> {
+fn several_changed(random: &mut Random, frame: &[u8]) -> Vec<u8> {
     let mut bad = frame.to_vec();
     let n = bad.len();
     for at in [1, 2, n - 3, n - 1] {
@@ -484,49 +484,44 @@ pub fn block() -> Block {
     block
 }
 
-/// A good frame with bytes behind it, damage, a cut or noise.
-pub fn any_slice(random: &mut Random) -> Vec<u8> {
-    let frame = any(random);
-    match random.below(15) {
-        0..=6 => {
-            // one in 64 is longer than a decoder holds
-            let more = if random.below(64) == 0 { random.below(1500) } else { random.below(8) };
-            let mut slice = frame;
-            slice.extend(random.bytes(more));
-            slice
-        }
-        7 => damaged(random, &frame),
-        8 => {
-            let bad = damaged(random, &frame);
-            summed(&bad)
-        }
-        9 => bit_changed(random, &frame),
-        10 => several_changed(random, &frame),
-        12 if random.below(4) == 0 => {
-            // only the byte fields: fault code, id, status or number
-            let id = random.one_of(&[50, 51]);
-            let mask = if id == 50 { 1 << 15 | 1 << 17 | 1 << 21 } else { 1 << 16 | 1 << 17 | 1 << 18 };
-            masked(id, mask, |n| random.bytes(n))
-        }
-        11 if random.below(4) == 0 => rare_sum(random),
-        11 => {
-            // any id, behind any length
-            let n = random.below(8);
-            let mut slice = vec![2];
-            slice.extend(random.bytes(2 + n));
-            slice
-        }
-        _ => {
-            let length = random.below(frame.len() + 1);
-            frame[..length].to_vec()
-        }
-    }
-}
-
-/// Fresh random cases.
+/// Fresh random cases: good frames with bytes behind them, damage, cuts and noise.
 pub fn some(block: &mut Block, random: &mut Random, count: usize) {
     for _ in 0..count {
-        let slice = any_slice(random);
+        let frame = any(random);
+        let slice = match random.below(15) {
+            0..=6 => {
+                // one in 64 is longer than a decoder holds
+                let more = if random.below(64) == 0 { random.below(1500) } else { random.below(8) };
+                let mut slice = frame;
+                slice.extend(random.bytes(more));
+                slice
+            }
+            7 => damaged(random, &frame),
+            8 => {
+                let bad = damaged(random, &frame);
+                summed(&bad)
+            }
+            9 => bit_changed(random, &frame),
+            10 => several_changed(random, &frame),
+            12 if random.below(4) == 0 => {
+                // only the byte fields: fault code, id, status or number
+                let id = random.one_of(&[50, 51]);
+                let mask = if id == 50 { 1 << 15 | 1 << 17 | 1 << 21 } else { 1 << 16 | 1 << 17 | 1 << 18 };
+                masked(id, mask, |n| random.bytes(n))
+            }
+            11 if random.below(4) == 0 => rare_sum(random),
+            11 => {
+                // any id, behind any length
+                let n = random.below(8);
+                let mut slice = vec![2];
+                slice.extend(random.bytes(2 + n));
+                slice
+            }
+            _ => {
+                let length = random.below(frame.len() + 1);
+                frame[..length].to_vec()
+            }
+        };
         decode(block, &slice);
     }
 }

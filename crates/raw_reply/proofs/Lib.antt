@@ -1,4 +1,0 @@
-pub mod Answers
-pub mod OfKind
-pub mod Laws
-pub mod Unique

@@ -1,3 +1,0 @@
-pub mod RawReply
-pub mod Reading
-pub mod Laws

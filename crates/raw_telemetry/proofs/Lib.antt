@@ -1,4 +1,0 @@
-pub mod Needs
-pub mod Rows
-pub mod Padded
-pub mod Laws

@@ -1,2 +1,0 @@
-pub mod Writer
-pub mod Laws
