@@ -1,4 +1,6 @@
 // CRC-16/XMODEM, bit by bit. The Rust takes it from the crate crc: `CRC16.checksum` in src/command.rs.
+#![tactic(auto)]
+
 ghost use Rattle.std.specs.Prelude.{◌≡◌};
 ghost use Rattle.checksum.specs.Xmodem.{checksum_of, step_of, byte_in_of};
 

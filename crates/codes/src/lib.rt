@@ -1,10 +1,12 @@
 // The kinds that a byte of a reply tells: faults, hardware, QML interface. Ports `FaultCode`, `HwType`
 // and `QmlHw` of src/command.rs.
+#![tactic(auto)]
+
 ghost use Rattle.std.specs.Prelude.{◌≡◌};
 ghost use Rattle.codes.specs.Codes.{fault_of, fault_number, hw_type_of, hw_type_number, qml_hw_of, qml_hw_number};
 
 // An error condition or hardware failure that a controller reports.
-#[derive(Drop)]
+#[derive(Clone, Copy)]
 pub enum FaultCode {
     None,
     OverVoltage,
@@ -40,7 +42,7 @@ pub enum FaultCode {
 }
 
 // What the hardware is.
-#[derive(Drop)]
+#[derive(Clone, Copy)]
 pub enum HwType {
     Vesc,
     VescBms,
@@ -49,7 +51,7 @@ pub enum HwType {
 }
 
 // Which QML interface the hardware brings.
-#[derive(Drop)]
+#[derive(Clone, Copy)]
 pub enum QmlHw {
     None,
     Embedded,

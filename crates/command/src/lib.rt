@@ -1,5 +1,7 @@
 // Plain commands to a VESC motor controller, as a caller gives them. Ports the first half of src/command.rs without
 // `encode`: masks, commands and `pack_into`; document 01, "Commands". Their ids and bytes are in crate `raw_command`.
+#![tactic(auto)]
+
 ghost use Rattle.std.specs.Prelude.{◌≡◌};
 ghost use Rattle.packer.specs.Packing.{PackIs};
 ghost use Rattle.command.specs.Commands.{raw_of, bytes_of, size_of};
@@ -13,7 +15,7 @@ pub use masks::{StatsMask, ValuesMask, ValuesSetupMask};
 
 // Commands that can be sent to a VESC controller. The Rust's ForwardCan is not among them: the controllers
 // that a command is forwarded through are given to `encode::encode` beside it.
-#[derive(Drop)]
+#[derive(Clone, Copy)]
 pub enum Command {
     // Requests firmware version information.
     FwVersion,

@@ -5,7 +5,7 @@ ghost use Rattle.format.specs.Format.{values_bit_count, setup_bit_count, stats_b
 ghost use Rattle.command.specs.Masks.{powers};
 
 // The fields that `Command::GetValuesSelective` asks for.
-#[derive(Drop)]
+#[derive(Clone, Copy)]
 pub struct ValuesMask;
 
 impl ValuesMask {
@@ -55,7 +55,7 @@ impl ValuesMask {
 }
 
 // The fields that `Command::GetValuesSetupSelective` asks for.
-#[derive(Drop)]
+#[derive(Clone, Copy)]
 pub struct ValuesSetupMask;
 
 impl ValuesSetupMask {
@@ -105,7 +105,7 @@ impl ValuesSetupMask {
 }
 
 // The statistics that `Command::GetStats` asks for.
-#[derive(Drop)]
+#[derive(Clone, Copy)]
 pub struct StatsMask;
 
 impl StatsMask {

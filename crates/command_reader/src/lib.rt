@@ -1,6 +1,8 @@
 // One command frame read from the front of a slice, and what was read written back: document 02, W2. The Rust only
 // writes commands. A hop is the id of ForwardCan, 34, and the id of a controller; the hops are the front part of the
 // payload, and the plain command is the rest.
+#![tactic(auto)]
+
 ghost use Rattle.std.specs.Prelude.{◌≡◌, ◌++◌, ◌+◌, ◌≤◌, length};
 ghost use Rattle.refusals.specs.Refusals.{refused, consumed, decode_refusal};
 ghost use Rattle.format.specs.Format.{payload_at};
@@ -21,7 +23,7 @@ const BEHIND_PAYLOAD: usize = FRAME_EXTRA - PAYLOAD_AT;
 
 // What `read_command` returns: the frame's count or the refusal, the command, and how many bytes at the payload's front
 // are hops, two for each. On a refusal the command is FwVersion and there are no hops.
-#[derive(Drop)]
+#[derive(Clone, Copy)]
 pub struct CommandRead {
     pub answer: Consumed,
     pub command: RawCommand,
@@ -29,7 +31,7 @@ pub struct CommandRead {
 }
 
 // What `write_command` returns: how many bytes the frame has, or the refusal.
-#[derive(Drop)]
+#[derive(Clone, Copy)]
 pub enum WrittenBack {
     Written(usize),
     Refused(WriteBackError),
@@ -115,7 +117,7 @@ fn pack_payload(hops: &[u8], parts: Parts, buf: &mut [u8]) -> Packed
     ensures { PackIs (hops.now ++ parts_bytes parts) buf.old payload_at result buf.new }
 {
     let end = PAYLOAD_AT + hops.len();
-    bytes::copy(hops, &mut buf[PAYLOAD_AT..end]);
+    buf[PAYLOAD_AT..end].copy_from_slice(hops);
     raw_command::pack_parts(parts, buf, end)
 }
 

@@ -2,6 +2,8 @@
 // src/decoder.rs at its default capacity of 512 bytes; document 01, "The stream". The state goes in by
 // value and comes back beside what the call answers. The line figures are added, and a feed for the
 // gateway that never clears (document 02, W12).
+#![tactic(auto)]
+
 ghost use Rattle.std.specs.Prelude.{◌≡◌, ◌+◌, ◌≤◌, length, drop};
 ghost use Rattle.std.proofs.Math.Seq.{paste};
 ghost use Rattle.format.specs.Format.{capacity};
@@ -15,7 +17,7 @@ use reply::CommandReply;
 
 // The unread bytes are buf[rpos..wpos]; the figures count since `new`. `drained`: the last `next` gave
 // nothing, and no nonempty piece was fed since; or the decoder is fresh.
-#[derive(Drop)]
+#[derive(Clone, Copy)]
 pub struct Decoder {
     pub buf: [u8; format::CAPACITY],
     pub rpos: usize,
@@ -28,28 +30,28 @@ pub struct Decoder {
 }
 
 // The answer of `feed`: the bytes taken.
-#[derive(Drop)]
+#[derive(Clone, Copy)]
 pub struct Fed {
     pub count: usize,
     pub decoder: Decoder,
 }
 
 // How many bytes of a piece the gateway feed took, or why it took none.
-#[derive(Drop)]
+#[derive(Clone, Copy)]
 pub enum Taken {
     Bytes(usize),
     Refused(FeedError),
 }
 
 // The answer of `gateway_feed`.
-#[derive(Drop)]
+#[derive(Clone, Copy)]
 pub struct GatewayFed {
     pub answer: Taken,
     pub decoder: Decoder,
 }
 
 // The answer of `next`. Where nothing is given the count is 0 and the reply the empty one.
-#[derive(Drop)]
+#[derive(Clone, Copy)]
 pub struct Next {
     pub given: bool,
     pub count: usize,
@@ -58,7 +60,7 @@ pub struct Next {
 }
 
 // The line figures.
-#[derive(Drop)]
+#[derive(Clone, Copy)]
 pub struct Figures {
     pub fed: u64,
     pub handed: u64,
@@ -68,7 +70,7 @@ pub struct Figures {
 }
 
 // Where a search of the unread bytes ends: the bytes moved over, and the count of a good frame.
-#[derive(Drop)]
+#[derive(Clone, Copy)]
 enum Sought {
     Found(usize, usize),
     Nothing(usize),

@@ -1,4 +1,6 @@
 // The frame of a command. Ports `encode` of src/command.rs; document 01, "Commands" and "Six refusals".
+#![tactic(auto)]
+
 ghost use Rattle.std.specs.Prelude.{◌≡◌, [], ◌∷◌, ◌+◌, ◌-◌, ◌*◌, ◌≤◌, length, drop};
 ghost use Rattle.encode.specs.Payload.{hop_bytes, payload_of};
 ghost use Rattle.packer.specs.Packing.{packed};
@@ -16,7 +18,7 @@ const FORWARD_CAN: u8 = CommandId::ForwardCan as u8;
 const HOPS_MAX: usize = (PAYLOAD_MAX - 1) / 2;
 
 // What `encode` answers: how many bytes the frame took, or the refusal.
-#[derive(Drop)]
+#[derive(Clone, Copy)]
 pub enum Encoded {
     Written(usize),
     Refused(EncodeError),

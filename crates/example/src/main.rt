@@ -1,4 +1,6 @@
 // The examples of README.md: the code that it shows stands here, and the gate runs it.
+#![tactic(auto)]
+
 use libc::STDOUT_FILENO;
 use packer::UnpackedI32;
 use vesc::{

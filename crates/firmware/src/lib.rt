@@ -1,6 +1,8 @@
 // Firmware version and build information. Ports `FwVersion` and `FwInfo` of src/command.rs with their readers; the texts of
 // their names are the crate `text`'s, over the lent name bytes. A payload that ends early reads as if zeros followed; a good
 // frame's never does (judge/specs/Good.antt).
+#![tactic(auto)]
+
 ghost use Rattle.std.specs.Prelude.{◌≡◌, [], ◌∷◌, ◌≤◌, length, replicate, get_or};
 ghost use Rattle.refusals.specs.Refusals.{consumed};
 ghost use Rattle.refusals.specs.Answers.{place_or};
@@ -13,7 +15,7 @@ use codes::{HwType, QmlHw};
 use refusals::Consumed;
 
 // Firmware version data.
-#[derive(Drop)]
+#[derive(Clone, Copy)]
 pub struct FwVersion {
     pub major: u8,
     pub minor: u8,
@@ -32,7 +34,7 @@ pub struct FwVersion {
 }
 
 // Firmware build information.
-#[derive(Drop)]
+#[derive(Clone, Copy)]
 pub struct FwInfo {
     pub major: u8,
     pub minor: u8,
@@ -64,10 +66,10 @@ fn uuid_of(part: &[u8]) -> [u8; 12]
 {
     let mut uuid = [0u8; 12];
     if part.len() < 12 {
-        bytes::copy(part, &mut uuid);
+        uuid[..part.len()].copy_from_slice(part);
         return uuid;
     }
-    bytes::copy(&part[0..12], &mut uuid);
+    uuid.copy_from_slice(&part[0..12]);
     uuid
 }
 

@@ -1,6 +1,8 @@
 // Whole numbers to and from IEEE 754 binary32: document 01, "Numbers".
 // Ports the casts `as f32`, `as i32` and `f32::from_bits` of src/packer.rs, and `f32::to_bits`.
 // Every function takes every argument.
+#![tactic(auto)]
+
 ghost use Rattle.std.specs.Prelude.{◌≡◌};
 ghost use Rattle.std.specs.Float.Ieee as Ieee;
 ghost use Rattle.std.specs.Float.{binary32};

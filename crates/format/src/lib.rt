@@ -1,11 +1,13 @@
 // The numbers of the format, each named once: ids, the bytes and sizes of a frame, the rooms of names, the bits
 // of masks, what a decoder holds. Ports `CommandId` and the constants of src/command.rs and src/decoder.rs.
 // specs/Format.antt has the same numbers from documents 01 and 02; the contract of `named` holds the two together.
+#![tactic(auto)]
+
 ghost use Rattle.std.specs.Prelude.{◌≡◌};
 ghost use Rattle.format.specs.Format.{numbers};
 
 // The first byte of each command and reply.
-#[derive(Drop)]
+#[derive(Clone, Copy)]
 pub enum CommandId {
     FwVersion = 0,
     GetValues = 4,

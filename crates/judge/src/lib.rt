@@ -1,6 +1,8 @@
 // The envelope: `judge` decides everything about a frame (taken whole, refused, or not enough yet)
 // and builds no record. What follows the payload is judged by `frame::finish`. Ports the order of `decode` in
 // src/command.rs; document 01, "The envelope".
+#![tactic(auto)]
+
 ghost use Rattle.std.specs.Prelude.{◌≡◌};
 ghost use Rattle.refusals.specs.Refusals.{consumed};
 ghost use Rattle.judge.specs.Judge.{judge_of};

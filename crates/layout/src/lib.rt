@@ -1,5 +1,7 @@
 // Where the fields of a reply end. Ports of the replies' readers in src/command.rs how far they go; no record is
 // built. specs/Layout.antt and specs/Replies.antt describe each reply once, as a list of items.
+#![tactic(auto)]
+
 ghost use Rattle.std.specs.Prelude.{◌≡◌, [], ◌∷◌, drop};
 ghost use Rattle.refusals.specs.Refusals.{consumed};
 ghost use Rattle.refusals.specs.Answers.{and_then};

@@ -1,6 +1,8 @@
 // Names: bytes that end with a NUL, in a room of 39 or 47 bytes. Ports `unpack_c_string` of
 // src/packer.rs, the position handed in and the place after the NUL handed back; document 01,
 // "Reply fields", has the rule.
+#![tactic(auto)]
+
 ghost use Rattle.std.specs.Prelude.{◌≡◌, drop, replicate};
 ghost use Rattle.format.specs.Format.{name_room, hash_room};
 ghost use Rattle.names.specs.Names.{nul_within, name_at, named, named39, named47};
@@ -9,14 +11,14 @@ ghost use Rattle.refusals.specs.Refusals.{consumed};
 use refusals::{Consumed, DecodeError};
 
 // A name of FwVersion, its bytes all zeros where it is refused.
-#[derive(Drop)]
+#[derive(Clone, Copy)]
 pub struct Name39 {
     pub answer: Consumed,
     pub bytes: [u8; format::FW_VERSION_NAME_MAX_LEN],
 }
 
 // A name of FwInfo, its bytes all zeros where it is refused.
-#[derive(Drop)]
+#[derive(Clone, Copy)]
 pub struct Name47 {
     pub answer: Consumed,
     pub bytes: [u8; format::FW_INFO_COMMIT_HASH_MAX_LEN],
@@ -50,7 +52,7 @@ fn unpack_c_string(buf: &[u8], pos: usize, room: usize, zeros: &mut [u8]) -> Con
     let answer = find_nul(buf, pos, room);
     match answer {
         Consumed::To(next) => {
-            bytes::copy(&buf[pos..next], zeros);
+            zeros[..next - pos].copy_from_slice(&buf[pos..next]);
             answer
         }
         Consumed::Refused(_) => answer,

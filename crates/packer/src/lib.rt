@@ -1,5 +1,7 @@
 // Numbers in a lent slice of bytes. Ports src/packer.rs: what its `Unpacker` and `Packer` do at
 // their position stands here as functions of the slice and the position.
+#![tactic(auto)]
+
 ghost use Rattle.std.specs.Prelude.{◌≡◌, ◌+◌, ◌*◌, ◌%◌, ◌≤◌, ◌<◌, ◌^◌, length};
 ghost use Rattle.std.specs.Int.Signed.{mag};
 ghost use Rattle.floats.specs.Numbers.{times_scale};
@@ -10,44 +12,44 @@ ghost use Rattle.packer.specs.Packing.{written, PackIs};
 use refusals::{Consumed, DecodeError, EncodeError};
 
 // What a reader answers: the value and the position after it, or the refusal.
-#[derive(Drop)]
+#[derive(Clone, Copy)]
 pub enum UnpackedU8 {
     Got(u8, usize),
     Refused(DecodeError),
 }
 
-#[derive(Drop)]
+#[derive(Clone, Copy)]
 pub enum UnpackedU16 {
     Got(u16, usize),
     Refused(DecodeError),
 }
 
-#[derive(Drop)]
+#[derive(Clone, Copy)]
 pub enum UnpackedU32 {
     Got(u32, usize),
     Refused(DecodeError),
 }
 
-#[derive(Drop)]
+#[derive(Clone, Copy)]
 pub enum UnpackedI16 {
     Got(i16, usize),
     Refused(DecodeError),
 }
 
-#[derive(Drop)]
+#[derive(Clone, Copy)]
 pub enum UnpackedI32 {
     Got(i32, usize),
     Refused(DecodeError),
 }
 
-#[derive(Drop)]
+#[derive(Clone, Copy)]
 pub enum UnpackedF32 {
     Got(f32, usize),
     Refused(DecodeError),
 }
 
 // A variant holds no array, so the bytes stand beside the answer; they are zeros on a refusal.
-#[derive(Drop)]
+#[derive(Clone, Copy)]
 pub struct UnpackedUuid {
     pub answer: Consumed,
     pub bytes: [u8; 12],
@@ -206,7 +208,7 @@ pub fn unpack_uuid(buf: &[u8], pos: usize) -> UnpackedUuid
     }
     let mut bytes = [0u8; 12];
     let next = pos + 12;
-    bytes::copy(&buf[pos..next], &mut bytes);
+    bytes.copy_from_slice(&buf[pos..next]);
     UnpackedUuid {
         answer: Consumed::To(next),
         bytes,
@@ -214,7 +216,7 @@ pub fn unpack_uuid(buf: &[u8], pos: usize) -> UnpackedUuid
 }
 
 // What a writer answers: the position after what it wrote, or the refusal.
-#[derive(Drop)]
+#[derive(Clone, Copy)]
 pub enum Packed {
     Next(usize),
     Refused(EncodeError),

@@ -1,5 +1,7 @@
 // Plain commands with the whole numbers that are sent: to bytes of a payload and back, with no float. Ports
 // `CommandId::try_from` and `Command::pack_into` of src/command.rs; document 01, "Commands", and document 02, W2.
+#![tactic(auto)]
+
 ghost use Rattle.std.specs.Prelude.{◌≡◌, false, ◌+◌, ◌≤◌, ◌<◌, eqb, length, get_or, drop};
 ghost use Rattle.packer.specs.Numbers.{be_at, signed_of};
 ghost use Rattle.packer.specs.Packing.{PackIs};
@@ -12,7 +14,7 @@ use refusals::{DecodeError, EncodeError};
 
 // A plain command with the whole number that is sent. `command::Command` has the values of a caller; `command::raw_of`
 // turns them into these.
-#[derive(Drop)]
+#[derive(Clone, Copy)]
 pub enum RawCommand {
     FwVersion,
     GetValues,
@@ -36,7 +38,7 @@ pub enum RawCommand {
 }
 
 // A plain command as it is written: its id, and a number of `width` bytes.
-#[derive(Drop)]
+#[derive(Clone, Copy)]
 pub struct Parts {
     pub id: u8,
     pub width: usize,
@@ -44,21 +46,21 @@ pub struct Parts {
 }
 
 // What `unpack_command` returns: the command, or the refusal.
-#[derive(Drop)]
+#[derive(Clone, Copy)]
 pub enum UnpackedCommand {
     Got(RawCommand),
     Refused(DecodeError),
 }
 
 // Which command has an id, if any.
-#[derive(Drop)]
+#[derive(Clone, Copy)]
 pub enum Identified {
     Known(CommandId),
     Unknown,
 }
 
 // What follows an id: `width` bytes, none above `most`.
-#[derive(Drop)]
+#[derive(Clone, Copy)]
 struct Carried {
     width: usize,
     most: u8,

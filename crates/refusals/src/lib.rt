@@ -1,10 +1,12 @@
 // Why an answer is no. Ports `DecodeError` and `EncodeError` of src/command.rs; document 01, "Six
 // refusals", gives each its number and says what is returned with it. Document 02 adds the rest.
+#![tactic(auto)]
+
 ghost use Rattle.std.specs.Prelude.{◌≡◌};
 ghost use Rattle.refusals.specs.Refusals.{decode_refusal, encode_refusal, write_back_refusal, feed_refusal};
 
 // Why a slice is not read.
-#[derive(Drop)]
+#[derive(Clone, Copy)]
 pub enum DecodeError {
     IncompleteData,
     InvalidFrame,
@@ -13,21 +15,21 @@ pub enum DecodeError {
 }
 
 // How far a slice was read: the place after what was read, or why it is not read.
-#[derive(Drop)]
+#[derive(Clone, Copy)]
 pub enum Consumed {
     To(usize),
     Refused(DecodeError),
 }
 
 // Why a buffer is not written.
-#[derive(Drop)]
+#[derive(Clone, Copy)]
 pub enum EncodeError {
     BufferTooSmall,
     PayloadTooLong,
 }
 
 // Why a command that was read is not written back.
-#[derive(Drop)]
+#[derive(Clone, Copy)]
 pub enum WriteBackError {
     InvalidFrame,
     PayloadTooLong,
@@ -35,7 +37,7 @@ pub enum WriteBackError {
 }
 
 // Why the gateway feed takes nothing.
-#[derive(Drop)]
+#[derive(Clone, Copy)]
 pub enum FeedError {
     NotDrained,
 }

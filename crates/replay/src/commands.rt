@@ -9,7 +9,7 @@ use encode::Encoded;
 use packer::{UnpackedI32, UnpackedU16, UnpackedU32};
 
 // What a command's number may be: the same four bytes in each of its forms. The flags are the lowest bits.
-#[derive(Drop)]
+#[derive(Clone, Copy)]
 pub struct Number {
     pub float: f32,
     pub signed: i32,

@@ -2,6 +2,8 @@
 // gate holds the answers to the stored cases to be the same. A case is a letter, a length (16 bits,
 // big-endian) and so many bytes, at most 4,096; oracle/answers/src says what each letter asks. A case that is
 // not known, too long or cut short is answered by a line that says so.
+#![tactic(auto)]
+
 mod commands;
 mod masks;
 mod readers;
@@ -17,7 +19,7 @@ use libc::STDIN_FILENO;
 use shows::Line;
 
 // The answers' text, the length of the stream at hand, and whether the input goes on.
-#[derive(Drop)]
+#[derive(Clone, Copy)]
 struct State {
     line: Line,
     length: usize,

@@ -7,7 +7,7 @@ use packer::Packed;
 
 // The text so far: where it ends in the buffer, and whether all that was written could be. The digest of the case at
 // hand, and whether its words are to be shown too.
-#[derive(Drop)]
+#[derive(Clone, Copy)]
 pub struct Line {
     pub used: usize,
     pub ok: bool,

@@ -9,7 +9,7 @@ use packer::UnpackedU16;
 
 // What the calls have come to: the decoder, the answer's line, how many replies were given, and the place
 // in the stream from which the next piece is taken.
-#[derive(Drop)]
+#[derive(Clone, Copy)]
 struct Run {
     decoder: Decoder,
     line: Line,
@@ -46,7 +46,7 @@ fn mix_state(text: &mut [u8], line: Line, decoder: Decoder) -> Line {
     mix_unread(text, now, buf, rpos, wpos)
 }
 
-#[derive(Drop)]
+#[derive(Clone, Copy)]
 struct Fed {
     count: usize,
     run: Run,
@@ -112,7 +112,7 @@ fn feed(text: &mut [u8], run: Run, piece: &[u8], gateway: bool) -> Fed {
     }
 }
 
-#[derive(Drop)]
+#[derive(Clone, Copy)]
 struct Asked {
     given: bool,
     run: Run,
@@ -326,5 +326,6 @@ pub(crate) fn load(case: &[u8], stream: &mut [u8]) -> usize
     if stream.len() < case.len() {
         return 0;
     }
-    bytes::copy(case, stream)
+    stream[..case.len()].copy_from_slice(case);
+    case.len()
 }

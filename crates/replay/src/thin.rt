@@ -48,7 +48,7 @@ pub(crate) fn name39_at(buf: &[u8], pos: usize) -> StepName39
 }
 
 // Four reads in a row: what each answers, and where the position stands after the last.
-#[derive(Drop)]
+#[derive(Clone, Copy)]
 pub(crate) struct Row {
     pub(crate) byte: UnpackedU8,
     pub(crate) name: Name39,

@@ -16,7 +16,7 @@ fn name(text: &mut [u8], line: Line, name: Name39) -> Line {
 }
 
 // The line so far, and where the last read left the position.
-#[derive(Drop)]
+#[derive(Clone, Copy)]
 struct Place {
     line: Line,
     pos: usize,

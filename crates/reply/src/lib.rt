@@ -1,6 +1,8 @@
 // Replies from a VESC motor controller. Ports the second half of src/command.rs: `CommandReply`, its reading, and `decode`. An enum
 // can't hold the arrays of the Rust's variants, so a reply is a struct: the kind, and one record of each sort.
 // Every function takes every slice.
+#![tactic(auto)]
+
 ghost use Rattle.std.specs.Prelude.{◌≡◌};
 ghost use Rattle.packer.specs.Numbers.{numbers_at};
 ghost use Rattle.tables.specs.Tables.{widths, values_table};
@@ -14,7 +16,7 @@ use tables::Sort;
 use telemetry::{SetupValues, Stats, Values};
 
 // The kind of a reply: which of the Rust's variants it is.
-#[derive(Drop)]
+#[derive(Clone, Copy)]
 pub enum Kind {
     FwVersion,
     GetValues,
@@ -26,7 +28,7 @@ pub enum Kind {
 }
 
 // A reply: its kind says which record it carries; the others hold zeros.
-#[derive(Drop)]
+#[derive(Clone, Copy)]
 pub struct CommandReply {
     pub kind: Kind,
     pub values: Values,
@@ -37,7 +39,7 @@ pub struct CommandReply {
 }
 
 // What `decode` answers: the count of a good frame with its reply, or the refusal with the empty one.
-#[derive(Drop)]
+#[derive(Clone, Copy)]
 pub struct Decoded {
     pub answer: Consumed,
     pub reply: CommandReply,

@@ -2,6 +2,8 @@
 // is. Ports the field reading of `unpack_get_values_selective`, `unpack_get_values_setup_selective`
 // and `unpack_get_stats` of src/command.rs. A byte past the end of a slice is read as 0: `judge` has
 // seen that a good frame has every byte.
+#![tactic(auto)]
+
 ghost use Rattle.std.specs.Prelude.{true, ◌↔◌, ◌≡◌, ◌≤◌, ◌<◌, length, drop, get_or};
 ghost use Rattle.packer.specs.Numbers.{be_at, total, numbers_at};
 ghost use Rattle.tables.specs.Tables.{widths};
@@ -10,7 +12,7 @@ ghost use Rattle.tables.specs.Sorts.{table_of};
 ghost use Rattle.tables.specs.Rows.{Rows, row_takes, widths_by, padded};
 
 // Which record a masked reply carries, and so which table it goes by.
-#[derive(Drop)]
+#[derive(Clone, Copy)]
 pub enum Sort {
     Values,
     SetupValues,

@@ -2,6 +2,8 @@
 // field by field. The walk over the mask stands in the crate `tables`: it leaves 0 for a field that was
 // not sent, and 0 is a zero of every kind, so that no field is tested again. A record keeps the mask, which the
 // Rust's does not: it tells a zero that was sent from a field that was not.
+#![tactic(auto)]
+
 ghost use Rattle.std.specs.Prelude.{true, [], ◌↔◌, ◌≡◌, ◌%◌};
 ghost use Rattle.floats.specs.Numbers.{over_scale};
 ghost use Rattle.packer.specs.Numbers.{signed_of};
@@ -12,7 +14,7 @@ use codes::FaultCode;
 
 // The telemetry of GetValues and GetValuesSelective, and the mask as received, unknown bits too. GetValues, which
 // sends no mask, has all 22 bits.
-#[derive(Drop)]
+#[derive(Clone, Copy)]
 pub struct Values {
     pub mask: u32,
     pub temp_mosfet: f32,
@@ -42,7 +44,7 @@ pub struct Values {
 }
 
 // The telemetry of GetValuesSetupSelective, and the mask as received.
-#[derive(Drop)]
+#[derive(Clone, Copy)]
 pub struct SetupValues {
     pub mask: u32,
     pub temp_mosfet: f32,
@@ -70,7 +72,7 @@ pub struct SetupValues {
 }
 
 // The statistics of GetStats, and the mask as received: 32 bits, where the query's has 16.
-#[derive(Drop)]
+#[derive(Clone, Copy)]
 pub struct Stats {
     pub mask: u32,
     pub speed_avg: f32,

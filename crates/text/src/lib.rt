@@ -1,6 +1,8 @@
 // The text of a name. Ports what `hw_name()` and its like in src/command.rs use of core: the check
 // of UTF-8 of core::str, and CStr::from_bytes_until_nul. Document 01, "Reply fields", says what
 // text a name has, and the Unicode Standard's table 3-7 what is well-formed.
+#![tactic(auto)]
+
 ghost use Rattle.core.specs.Prelude.{◌≡◌, ◌<◌, ◌&&◌, [], ◌∷◌, length, drop};
 ghost use Rattle.text.specs.Utf8.{range, table, within, stands, front_length, well_formed};
 ghost use Rattle.text.specs.Text.{has_text, text_of, FoundText};
@@ -114,7 +116,7 @@ pub fn well_formed(bytes: &[u8]) -> bool
 }
 
 // The text of a name: whether it has one, and how many bytes at its front that is.
-#[derive(Drop)]
+#[derive(Clone, Copy)]
 struct TextPart {
     has: bool,
     size: usize,

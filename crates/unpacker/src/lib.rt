@@ -2,6 +2,8 @@
 // of src/packer.rs: `new`, and of its methods one of each sort, a byte, a 32-bit number, a scaled number
 // and a name of 39. Each method takes it apart, calls a step on the slice and the position, and
 // stores the position that came back.
+#![tactic(auto)]
+
 ghost use Rattle.std.specs.Prelude.{◌≡◌};
 ghost use Rattle.packer.specs.Unpacking.{unpacked_u8, unpacked_u32, unpacked_f32};
 ghost use Rattle.names.specs.Names.{name_at, named39};
@@ -13,32 +15,32 @@ use names::Name39;
 use packer::{UnpackedF32, UnpackedU8, UnpackedU32};
 use refusals::Consumed;
 
-#[derive(Drop)]
+#[derive(Clone, Copy)]
 pub struct Unpacker<'a> {
     pub buf: &'a [u8],
     pub pos: usize,
 }
 
 // A step: what a read answers, and where it leaves the position.
-#[derive(Drop)]
+#[derive(Clone, Copy)]
 pub struct StepU8 {
     pub answer: UnpackedU8,
     pub pos: usize,
 }
 
-#[derive(Drop)]
+#[derive(Clone, Copy)]
 pub struct StepU32 {
     pub answer: UnpackedU32,
     pub pos: usize,
 }
 
-#[derive(Drop)]
+#[derive(Clone, Copy)]
 pub struct StepF32 {
     pub answer: UnpackedF32,
     pub pos: usize,
 }
 
-#[derive(Drop)]
+#[derive(Clone, Copy)]
 pub struct StepName39 {
     pub answer: Name39,
     pub pos: usize,

@@ -2,6 +2,8 @@
 // CRC-16/XMODEM, the two readings past 2^24, the frames that it does not mark P and its worked stream.
 // An encode behind a million hops is added, states that are handed to the gateway feed (document 02, W12), the masks of
 // telemetry records (W1), and command frames that are read (W2).
+#![tactic(auto)]
+
 mod commands;
 mod frames;
 mod handed;

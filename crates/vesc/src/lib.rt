@@ -1,6 +1,8 @@
 // The names that a caller uses. Ports src/lib.rs: encode commands, decode replies, decode a stream; and document 02's
 // W2, commands read and written back. A crate that uses the types lists their crates too: copy the line of `example` in
 // crates.txt. specs/Frames.antt has document 01's proved frames as one table, specs/Demands.antt the three demands.
+#![tactic(auto)]
+
 pub use codes::{FaultCode, HwType, QmlHw, fault_number, hw_type_number, qml_hw_number};
 pub use command::{Command, StatsMask, ValuesMask, ValuesSetupMask, raw_of};
 pub use command_reader::{CommandRead, WrittenBack, hop_part, read_command, write_command};

@@ -1,6 +1,8 @@
 // Reads a controller line's bytes from standard input to its end, prints the id of each reply on a
 // line, and at the end the line's figures. A thin program over the proved decoder: it offers what it read to
 // the gateway feed, asks until nothing comes, and offers again what was not taken.
+#![tactic(auto)]
+
 mod printing;
 mod waiting;
 
@@ -8,7 +10,7 @@ use decoder::{Decoder, Taken};
 use libc::{STDERR_FILENO, STDIN_FILENO};
 
 // The decoder, and how many bytes of text wait to be written; `ok` is false once reading or writing failed.
-#[derive(Drop)]
+#[derive(Clone, Copy)]
 struct Line {
     decoder: Decoder,
     used: usize,
@@ -130,7 +132,7 @@ fn step(line: Line, input: &mut [u8], text: &mut [u8]) -> Stepped {
     }
 }
 
-#[derive(Drop)]
+#[derive(Clone, Copy)]
 struct Stepped {
     more: bool,
     line: Line,

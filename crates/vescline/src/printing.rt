@@ -42,7 +42,7 @@ pub(crate) fn number_line(text: &mut [u8], used: usize, number: u64) -> usize {
     put(text, end, b'\n')
 }
 
-#[derive(Drop)]
+#[derive(Clone, Copy)]
 enum Wrote {
     Bytes(usize),
     Failed,
