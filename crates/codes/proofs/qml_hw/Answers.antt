@@ -1,0 +1,21 @@
+-- `codes::qml_hw` meets its contract.
+use mathlib.Core.Path.{sym}
+use native.Mathlib.Omega.{arith}
+use Rattle.codes.specs.Codes.{qml_hw_of}
+use Rattle.codes.proofs.Named.{qml-hw-numbered}
+use Rattle.codes.proofs.qml_hw.Goals as goal
+
+pub returns-in-0 : goal.returns-in-0
+unfolding qml_hw_of
+returns-in-0 c = rw c.in-0.is
+
+pub returns-in-1 : goal.returns-in-1
+unfolding qml_hw_of
+returns-in-1 c = rw c.in-1.is
+
+pub returns-in-2 : goal.returns-in-2
+unfolding qml_hw_of
+returns-in-2 c = rw c.in-2.is
+
+pub returns-in_default : goal.returns-in_default
+returns-in_default c = sym (qml-hw-numbered.unnamed c.args.byte (omega (arith, c.in_default.in_default-own.rest.1, c.in_default.in_default-own.rest.0.1, c.in_default.in_default-own.rest.0.0.1)))

@@ -1,0 +1,18 @@
+-- `reply::with_values` meets its contract.
+use mathlib.Core.Path.{ap, ◌∙◌}
+use Rattle.telemetry.specs.Telemetry.{values_of}
+use Rattle.telemetry.proofs.Padded.{values-padded}
+use Rattle.reply.specs.Reply.{blank_of}
+use Rattle.reply.proofs.with_values.Goals as goal
+
+pub returns : goal.returns
+unfolding blank_of
+returns c =
+    λ i. record {
+      kind = (c.blank-reply.ensures i).kind;
+      values = (c.values_of-reply.ensures ∙ ap (values_of _) c.unpack_fields-raw.ensures ∙ values-padded _ _) i;
+      setup_values = (c.blank-reply.ensures i).setup_values;
+      stats = (c.blank-reply.ensures i).stats;
+      fw_version = (c.blank-reply.ensures i).fw_version;
+      fw_info = (c.blank-reply.ensures i).fw_info;
+    }
