@@ -215,6 +215,10 @@ module _ (raw : ℤ) (A : 0 < size raw) (A' : size raw ≤ 2 ^ 31) where
     tie : distance x raw * over y ≡ distance y raw * over x → (y ≡ x) ⊎ (to_bits binary32 x % 2 ≡ 0)
 
   against : (x y : Float) → T (fits binary32 x) → HasValue x (negative raw) (q * 2 ^ k) l → T (finite y) → T (fits binary32 y) → Against x y
+  against nan y fx v fy h = absurd v
+  against (inf _) y fx v fy h = absurd v
+  against (fin b c d) nan fx v fy h = absurd fy
+  against (fin b c d) (inf _) fx v fy h = absurd fy
   against (fin b c d) (fin t m e) fx v fy h =
       let u = held binary32 t m e h in
       let sides = signed t (negative raw) (q * 2 ^ k) (m * 2 ^ u.shift) n (q % 2 ≡ 0) close (others m u.shift u.small) in

@@ -16,7 +16,7 @@ returns-then-x-2 c = at-bottom c.args.x c.if-x-2.true
 pub truncating_f32_to_i64-requires : goal.truncating_f32_to_i64-requires
 unfolding of_bits neg
 truncating_f32_to_i64-requires c =
-    let b = between c.args.x c.if-x-2.false c.if-x-3.true in (b.low, b.high)
+    let b = between c.args.x c.if-x-2.false c.if-x-3.true in record { lower_bound = b.low; upper_bound = b.high }
 
 pub overflow_cast-result : goal.overflow_cast-result
 unfolding of_bits neg

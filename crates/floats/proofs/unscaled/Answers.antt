@@ -6,4 +6,4 @@ use Rattle.floats.proofs.unscaled.Goals as goal
 
 pub returns : goal.returns
 unfolding times_scale
-returns c = to_z-of_z w32 c.f32_to_i32.result (record { sfits = c.f32_to_i32.type-inv }) ∙ c.f32_to_i32.ensures
+returns c = to_z-of_z w32 c.f32_to_i32.result (record { sfits = c.f32_to_i32.type_inv }) ∙ c.f32_to_i32.ensures

@@ -11,11 +11,11 @@ pub signed-requires : goal.signed-requires
 signed-requires c = (omega arith, subst (NumberBelow 65536) c.in-Got.is c.unpack_be.ensures.1)
 
 pub overflow_cast-result : goal.overflow_cast-result
-overflow_cast-result c = fits-i16 _ _ c.signed.type-inv (subst (NumberBelow 65536) c.in-Got.is c.unpack_be.ensures.1) c.signed.ensures
+overflow_cast-result c = fits-i16 _ _ c.signed.type_inv (subst (NumberBelow 65536) c.in-Got.is c.unpack_be.ensures.1) c.signed.ensures
 
 pub returns-in-Got : goal.returns-in-Got
 returns-in-Got c =
-    made (signed_of 65536) _ _ _ _ _ _ _ (called-i16 _ _ c.signed.type-inv (subst (NumberBelow 65536) c.in-Got.is c.unpack_be.ensures.1) c.signed.ensures)
+    made (signed_of 65536) _ _ _ _ _ _ _ (called-i16 _ _ c.signed.type_inv (subst (NumberBelow 65536) c.in-Got.is c.unpack_be.ensures.1) c.signed.ensures)
     (sym (ap unpacked_u32 c.in-Got.is) ∙ c.unpack_be.ensures.0)
 
 pub returns-in-Refused : goal.returns-in-Refused

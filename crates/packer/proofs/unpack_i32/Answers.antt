@@ -8,7 +8,7 @@ use Rattle.packer.proofs.unpack_i32.Goals as goal
 
 pub returns-in-Got : goal.returns-in-Got
 returns-in-Got c =
-    made (signed_of 4294967296) _ _ _ _ _ _ _ (called-i32 _ _ c.as_i32.type-inv c.as_i32.ensures)
+    made (signed_of 4294967296) _ _ _ _ _ _ _ (called-i32 _ _ c.as_i32.type_inv c.as_i32.ensures)
     (sym (ap unpacked_u32 c.in-Got.is) ∙ c.unpack_be.ensures.0)
 
 pub returns-in-Refused : goal.returns-in-Refused

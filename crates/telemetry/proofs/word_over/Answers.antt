@@ -7,4 +7,4 @@ use Rattle.telemetry.proofs.word_over.Goals as goal
 
 pub returns : goal.returns
 returns c =
-    c.scaled.ensures ∙ ap (λ (z : ℤ). over_scale z c.args.scale) (called-i32 _ _ c.as_i32.type-inv c.as_i32.ensures)
+    c.scaled.ensures ∙ ap (λ (z : ℤ). over_scale z c.args.scale) (called-i32 _ _ c.as_i32.type_inv c.as_i32.ensures)
