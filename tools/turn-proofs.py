@@ -3,7 +3,7 @@
 
 usage: tools/turn-proofs.py NAMES CRATE ..     NAMES is the folder that `rt names NAMES` wrote; CRATE the folder of a crate
 
-An answer that says no more than `search rules` is left out, since the check finds it. What can't be turned is printed and its Proof.antt kept.
+An answer that says no more than `search rules`, and unfolds nothing, is left out, since the check finds it. What can't be turned is printed and its Proof.antt kept.
 """
 import json
 import os
@@ -144,6 +144,37 @@ def declarations(lines):
     return groups
 
 
+def arguments(body):
+    """What `tie.spec` is given: names, and groups in parentheses."""
+    at = body.index("tie.spec") + len("tie.spec")
+    got, depth, start = [], 0, None
+    for i in range(at, len(body)):
+        ch = body[i]
+        if ch == "(":
+            if depth == 0:
+                start = i
+            depth += 1
+        elif ch == ")":
+            depth -= 1
+            if depth < 0:
+                if start is not None:
+                    got.append(body[start:i])
+                return got
+            if depth == 0:
+                got.append(body[start : i + 1])
+                start = None
+        elif depth == 0:
+            if ch.isspace():
+                if start is not None:
+                    got.append(body[start:i])
+                    start = None
+            elif start is None:
+                start = i
+    if start is not None:
+        got.append(body[start:])
+    return got
+
+
 def sig(line):
     return re.match(r"(pub |abbrev |unfoldable )*(\S+)\s*:", line) is not None
 
@@ -179,6 +210,32 @@ def turn(path, d):
         code = [l for l in g if not l.startswith("--")]
         first = code[0]
         if "statement M" in body:
+            given = arguments(body)
+            loops = 2 * len(d["loops"])
+            asked = given[loops:]
+            goals = list(zip(d["needs"], d["asked_at"]))
+            if any(a.startswith("(") for a in given) and len(asked) != len(goals):
+                # goals that today's check asks no more were answered trivially
+                asked = [a for a in asked if not re.match(r"\(\s*λ[^.]*\.\s*(search rules|search needs|tt|omega arith)\s*\)$", a)]
+                goals = [g for g in goals if g[0][1].startswith("returns")]
+            if any(a.startswith("(") for a in given) and len(asked) != len(goals):
+                fn.trouble.append(f"{len(asked)} answers for {len(goals)} goals")
+                continue
+            for a, ((old, new), at) in zip(asked, goals):
+                if not a.startswith("("):
+                    continue
+                lam = re.match(r"\(\s*λ\s+(\S+?)(\s+κs)?\.\s*(.*)\)$", a, re.S)
+                if not lam:
+                    if a != "(search rules)":
+                        fn.trouble.append(f"an answer of another form: {new} {a[:80]}")
+                    continue
+                if lam.group(3).strip() in ("search rules", "search needs", "tt"):
+                    continue
+                if lam.group(1) != "c":
+                    fn.trouble.append(f"an answer over {lam.group(1)}: {new} {a[:80]}")
+                    continue
+                unfold = [l for l in code if l.startswith("unfolding")]
+                answers.append("\n".join([f"pub {new} : goal.{new}"] + unfold + [f"{new} c = {fn.body(at[0], lam.group(3))}"]))
             continue
         m = re.search(r":\s*tie\.(Need-\S+|invariant-\S+|decreases-\S+|Invariant-\S+)", "\n".join(code))
         if not m:
@@ -216,7 +273,7 @@ def turn(path, d):
             continue
         asked = fn.need(what[len("Need-") :])
         left, right = clause.split("=", 1)
-        if right.strip() in ("search rules", "search needs", "tt"):
+        if right.strip() in ("search rules", "search needs", "tt") and not unfolding:
             continue
         if not asked:
             fn.trouble.append(f"no goal for {what}: {right.strip()[:60]}")

@@ -239,9 +239,9 @@ module _ {R : Type 0} (judge : Judge R) (steady : Steady judge) (calls : Calls R
       → (gave : List R) × (u : calls.State) × Run calls Free pieces [] (joined pieces) gave u
   ended {Free} {pieces} {taken = taken} {replies = replies} {s = s} run some all-taken =
       (replies, s, subst (λ (l : List ℕ). Run calls Free pieces [] l replies s) (sym (run-front run ∙ append-nil taken)) run)
-  ended run (may, others) (offering {ahead} {piece} (n, t, feeds) ending on) =
+  ended run both (offering {ahead} {piece} (n, t, feeds) ending on) =
       let asked = asked_of (ending n t feeds) in
-      ended (offers run may feeds asked.2) (each_again {P = calls.Piece} (λ piece some. able.piece some) (drop n piece) ahead others) (on n t asked.1 asked.0 feeds asked.2)
+      ended (offers run both.0 feeds asked.2) (each_again {P = calls.Piece} (λ piece some. able.piece some) (drop n piece) ahead both.1) (on n t asked.1 asked.0 feeds asked.2)
 
   -- Every cutting into pieces that may be offered has a run that takes all of it.
   pub runs-whole : (pieces : List (List ℕ)) → EachPiece calls.Piece pieces → (replies : List R) × (s : calls.State) × Run calls ⊥ pieces [] (joined pieces) replies s

@@ -22,21 +22,14 @@ pub name_of
 unfolding name_at
 name_of room bytes place answer held e h = rw (h, e)
 
--- the bytes from a place up to the next fit into the zeros
-pub copied-fits
-    : (room : ℕ) (bytes : List ℕ) (place next : ℕ) {zeros : List ℕ} → Ends room (length bytes) place next → zeros ≡ replicate room 0
-    → length (take (next - place) (drop place bytes)) ≤ length zeros
-copied-fits room bytes place next ends e =
-    let there : next - place ≤ length (drop place bytes) = simp length-drop (omega arith) in
-    simp (e, length-replicate, length-take-le (next - place) (drop place bytes) there) (omega arith)
+-- how many bytes stand from a place up to the next
+pub part-length
+    : (room : ℕ) (bytes : List ℕ) (place next : ℕ) → Ends room (length bytes) place next → length (take (next - place) (drop place bytes)) ≡ next - place
+part-length room bytes place next ends = let there : next - place ≤ length (drop place bytes) = simp length-drop (omega arith) in length-take-le (next - place) (drop place bytes) there
 
 -- what a copy of the bytes from a place up to the next leaves of the zeros
 pub copied-held
     : (room : ℕ) (bytes : List ℕ) (place next : ℕ) {zeros : List ℕ} → Ends room (length bytes) place next → zeros ≡ replicate room 0
-    → take (length (take (next - place) (drop place bytes))) (take (next - place) (drop place bytes))
-    ++ drop (length (take (next - place) (drop place bytes))) zeros
-    ≡ held_bytes room (drop place bytes) place (ok next)
+    → take (next - place) (drop place bytes) ++ drop (next - place) zeros ≡ held_bytes room (drop place bytes) place (ok next)
 unfolding held_bytes
-copied-held room bytes place next ends e =
-    let there : next - place ≤ length (drop place bytes) = simp length-drop (omega arith) in
-    rw (take-length, length-take-le (next - place) (drop place bytes) there, e, zeros-left room (next - place))
+copied-held room bytes place next ends e = rw (e, zeros-left room (next - place))

@@ -74,13 +74,8 @@ module _ (s : List ℕ) (at : ℕ) where
   uuid-got bytes h e = record { answer = sym (bytes-got 12 s at h); bytes = rw (le-leb (at + 12) (length s) h) e }
 
   -- what a copy of them over twelve zeros leaves
-  pub copied : at + 12 ≤ length s
-      → take (length (take (at + 12 - at) (drop at s))) (take (at + 12 - at) (drop at s)) ++ drop (length (take (at + 12 - at) (drop at s))) (replicate 12 0)
-      ≡ take 12 (drop at s)
-  copied h =
-      let d : length (drop at s) ≡ length s - at = length-drop at s in
-      let e : at + 12 - at ≡ 12 = omega arith in
-      rw (e, take-length, length-take-le 12 (drop at s) (omega arith)) (append-nil (take 12 (drop at s)))
+  pub copied : take (at + 12 - at) (drop at s) ≡ take 12 (drop at s)
+  copied = let e : at + 12 - at ≡ 12 = omega arith in rw e
 
 -- the part from a place to the end, as it is lent
 pub lent-whole : (n : ℕ) (s : List ℕ) → take (length s - n) (drop n s) ≡ drop n s

@@ -5,7 +5,7 @@ use lib.ListN.{length}
 use Rattle.frame.proofs.wrap.Reads as wrap-reads
 use Rattle.raw_command.proofs.parts_of.Reads as parts-of-reads
 use Rattle.command_reader.specs.Reader.{hop_size}
-use Rattle.command_reader.proofs.Writing.{too_long, too_small, wrapped}
+use Rattle.command_reader.proofs.Writing.{no-hops, too_long, too_small, wrapped}
 use Rattle.command_reader.proofs.hops_len.Reads as hops-len-reads
 use Rattle.command_reader.proofs.pack_payload.Reads as pack-payload-reads
 use Rattle.command_reader.proofs.wrapped.Reads as wrapped-reads
@@ -39,3 +39,21 @@ returns c =
     let narrow = c.parts_of-parts.ensures.narrow in
     wrapped u.hops.now u.command u.buf.now (form parts) c.parts_of-parts.ensures (omega arith) (omega arith) (omega arith)
     c.pack_payload.ensures c.wrap.ensures c.wrapped.ensures
+
+pub returns-then-hops_len-hops : goal.returns-then-hops_len-hops
+returns-then-hops_len-hops c = no-hops _ _ _ (λ e. c.if-hops_len-hops.true (c.hops_len.ensures.0 ∙ e))
+
+pub overflow_add-plain_len : goal.overflow_add-plain_len
+overflow_add-plain_len c = omega (arith, c.parts_of-parts.ensures.narrow)
+
+pub overflow_sub-plain_len : goal.overflow_sub-plain_len
+overflow_sub-plain_len c = omega (arith, c.parts_of-parts.ensures.narrow)
+
+pub overflow_add-len : goal.overflow_add-len
+overflow_add-len c = omega (arith, c.parts_of-parts.ensures.narrow)
+
+pub overflow_add-len-2 : goal.overflow_add-len-2
+overflow_add-len-2 c = omega (arith, c.parts_of-parts.ensures.narrow)
+
+pub pack_payload-requires : goal.pack_payload-requires
+pack_payload-requires c = omega (arith, c.parts_of-parts.ensures.narrow)

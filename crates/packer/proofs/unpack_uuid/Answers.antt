@@ -11,4 +11,4 @@ pub returns-then-len-pos : goal.returns-then-len-pos
 returns-then-len-pos c = uuid-lacking _ _ (search rules)
 
 pub returns : goal.returns
-returns c = uuid-got _ _ _ (search rules) (c.copy.ensures.1 ∙ copied c.args.buf.now c.args.pos (search rules))
+returns c = uuid-got _ _ _ (search rules) (c.copy_from_slice.ensures.after ∙ copied c.args.buf.now c.args.pos)
