@@ -29,7 +29,7 @@ loop-i-smaller c = omega arith
 pub loop-i-preserved : goal.loop-i-preserved
 loop-i-preserved c =
     let args = c.args in
-    let l = c.loop in
+    let l = c.loop-i in
     (omega arith, paste_more args.buf.now l.buf args.at args.piece.now l.i (omega arith) (omega arith) l.invariant.1)
 
 pub returns : goal.returns

@@ -30,7 +30,7 @@ loop-to-smaller c = omega arith
 pub loop-to-preserved : goal.loop-to-preserved
 loop-to-preserved c =
     let args = c.args in
-    let l = c.loop in
+    let l = c.loop-to in
     (omega arith, move-more args.buf.now l.buf args.from l.to (omega arith) l.invariant.1)
 
 pub returns : goal.returns

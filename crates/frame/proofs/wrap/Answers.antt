@@ -11,6 +11,6 @@ returns-then-buf-len c = too_small _ _ c.if-len-gt-PAYLOAD_MAX.false c.if-buf-le
 
 pub returns : goal.returns
 returns c =
-    let s = c in
+    let s = c.args in
     wrapped s.len s.buf.now (omega arith) (omega arith) c.pack_u8.ensures c.pack_u8-2.ensures
     c.pack_u16.ensures c.pack_u8-3.ensures c.checksum-sum.ensures

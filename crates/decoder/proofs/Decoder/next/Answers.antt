@@ -6,42 +6,34 @@ use Rattle.decoder.proofs.Seeking.{told, found-room, nothing-room, next-found, n
 use Rattle.decoder.proofs.Decoder.next.Goals as goal
 
 -- A frame that was found lies within the unread bytes, and these within the array.
-within : (c : tie.After-known-told)
-    → let at = c.before.over.given in
-    let d = c.before.before.before.before.before.before.before.settled.result in
-    (d.rpos + at.0.0 + at.0.1.0 ≤ d.wpos) × (d.wpos ≤ 512)
-within c =
-    let at = c.before.over.given in
-    let sought = c.before.before.before in
-    let settled = sought.before.before.before.before.settled in
-    (found-room settled.result settled.ensures.0.sound at.0.0 at.0.1.0 (told settled.result _ _ at.1 sought.seek.ensures), settled.ensures.0.sound.high)
 
 pub overflow_add-start : goal.overflow_add-start
-overflow_add-start c = omega (arith, within c)
+overflow_add-start c = omega (arith, found-room c.settled-decoder.result c.settled-decoder.ensures.0.sound c.in-Found.over c.in-Found.count (told c.settled-decoder.result _ _ c.in-Found.is c.seek.ensures), c.settled-decoder.ensures.0.sound.high)
 
 pub slice_bounds-reply_in-count : goal.slice_bounds-reply_in-count
-slice_bounds-reply_in-count c = omega (arith, within c)
+slice_bounds-reply_in-count c = omega (arith, found-room c.settled-decoder.result c.settled-decoder.ensures.0.sound c.in-Found.over c.in-Found.count (told c.settled-decoder.result _ _ c.in-Found.is c.seek.ensures), c.settled-decoder.ensures.0.sound.high)
 
 pub slice_bounds-reply_in-start : goal.slice_bounds-reply_in-start
-slice_bounds-reply_in-start c = omega (arith, within c.before)
+slice_bounds-reply_in-start c = omega (arith, found-room c.settled-decoder.result c.settled-decoder.ensures.0.sound c.in-Found.over c.in-Found.count (told c.settled-decoder.result _ _ c.in-Found.is c.seek.ensures), c.settled-decoder.ensures.0.sound.high)
 
 pub overflow_add-decoder : goal.overflow_add-decoder
-overflow_add-decoder c = omega (arith, within c.before.before.before.before.before)
+overflow_add-decoder c = omega (arith, found-room c.settled-decoder.result c.settled-decoder.ensures.0.sound c.in-Found.over c.in-Found.count (told c.settled-decoder.result _ _ c.in-Found.is c.seek.ensures), c.settled-decoder.ensures.0.sound.high)
 
 pub overflow_add-decoder-in-Nothing : goal.overflow_add-decoder-in-Nothing
 overflow_add-decoder-in-Nothing c =
-    let settled = c.settled in
+    let settled = c.settled-decoder in
     omega (arith, nothing-room settled.result settled.ensures.0.sound c.in-Nothing.over (told settled.result _ _ c.in-Nothing.is c.seek.ensures))
 
 pub returns-in-Found : goal.returns-in-Found
 returns-in-Found c =
-    let at = c.over.given in
-    let settled = c in
-    next-found _ settled.result settled.ensures.0 _ refl refl refl refl at.0.0 at.0.1.0 (told settled.result _ _ at.1 c.seek.ensures) refl refl
+    let settled = c.settled-decoder in
+    next-found _ settled.result settled.ensures.0 _ refl refl refl refl c.in-Found.over c.in-Found.count
+    (told settled.result _ _ c.in-Found.is c.seek.ensures) refl refl
     c.reply_in-reply.ensures refl c.raise-handed.ensures c.raise-passed.ensures refl
 
 pub returns-in-Nothing : goal.returns-in-Nothing
 returns-in-Nothing c =
-    let settled = c.settled in
-    next-nothing _ settled.result settled.ensures.0 _ refl refl refl refl c.in-Nothing.over (told settled.result _ _ c.in-Nothing.is c.seek.ensures) refl refl
+    let settled = c.settled-decoder in
+    next-nothing _ settled.result settled.ensures.0 _ refl refl refl refl c.in-Nothing.over
+    (told settled.result _ _ c.in-Nothing.is c.seek.ensures) refl refl
     c.empty-reply.ensures refl refl c.raise-passed-in-Nothing.ensures refl
