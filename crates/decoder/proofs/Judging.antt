@@ -1,14 +1,10 @@
 -- `decode` at a position is a judge that the theory of reading takes: steady, and never "not yet" of 110 bytes; and what `judge` answers, said of it.
-use mathlib.Core.Path.{◌≡◌, sym, ap, ◌∙◌}
+use mathlib.Core.Path.{◌≡◌, refl, sym, ap, ◌∙◌}
 use mathlib.Core.List.{List, [], ◌∷◌}
 use Prim.Native.Nat.{ℕ, ◌<◌}
 use native.Mathlib.Omega.{arith}
-use mathlib.Core.Logic.{⊎_elim}
-use denote.Enum.Declared.{tag_of}
-use types.Run.{OneOf}
 use lib.ListN.{length, get_or}
 use Rattle.refusals.specs.Refusals.{Refusal, Answer, ok, refused, incomplete_data, invalid_frame, decode_refusal}
-use Rattle.refusals.specs.contracts.DecodeError.{the_type}
 use Rattle.refusals.specs.declared.DecodeError.{DecodeError}
 use Rattle.refusals.specs.declared.DecodeError.TheVariants.{IncompleteData, InvalidFrame, UnknownPacket, ChecksumMismatch}
 use Rattle.refusals.specs.Refusals.{consumed}
@@ -85,15 +81,15 @@ reset-stats = decode-good (2 ∷ 1 ∷ 129 ∷ 129 ∷ 169 ∷ 3 ∷ []) 6 frame
 
 -- ---- by what `judge` returns
 
--- an error that a `match` found to be another than IncompleteData: by its tag
+-- an error that a `match` found to be another than IncompleteData
 abbrev Other : DecodeError → Type 0
-Other error = OneOf (1 ∷ 2 ∷ 3 ∷ []) (tag_of the_type error)
+Other error = error ≡ IncompleteData → ⊥
 
 other-number : (error : DecodeError) → Other error → (decode_refusal error).number ≡ 1 → ⊥
-other-number IncompleteData tag one = ⊎_elim (λ e. omega arith) (⊎_elim (λ e. omega arith) (λ e. omega arith)) tag
-other-number InvalidFrame tag one = omega arith
-other-number (UnknownPacket id) tag one = omega arith
-other-number (ChecksumMismatch expected actual) tag one = omega arith
+other-number IncompleteData other one = other refl
+other-number InvalidFrame other one = omega arith
+other-number (UnknownPacket id) other one = omega arith
+other-number (ChecksumMismatch expected actual) other one = omega arith
 
 module _ (l : List ℕ) (a : Consumed) (answers : consumed a ≡ judge_of l) where
   pub answer-good : (count : ℕ) → a ≡ To count → decode_judge l ≡ good count (reply_in l)

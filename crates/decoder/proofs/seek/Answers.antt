@@ -12,6 +12,7 @@ use Rattle.stream.proofs.Seeking.{lent-rest, seek-starts, seek-moves, seek_found
 use Rattle.reply.specs.Decode.{reply_in}
 use Rattle.decoder.specs.Judge.{decode_judge}
 use Rattle.decoder.proofs.Judging.{decode-steady, decode-noise, answer-good, answer-waits, answer-moves}
+use Rattle.decoder.proofs.seek.Goals.{then-unread-over-eq-FRAME_START_SHORT+in-Refused+in_default, else-unread-over-eq-FRAME_START_SHORT}
 use Rattle.decoder.proofs.seek.Goals as goal
 
 pub loop-over-init : goal.loop-over-init
@@ -52,12 +53,17 @@ loop-over-smaller c = omega arith
 pub loop-over-preserved : goal.loop-over-preserved
 loop-over-preserved c =
     let unread = c.args.unread.now in
-    let l = c.loop-over in
-    let moves =
-    ⊎_elim (λ w. answer-moves (drop l.over unread) w.2.result (w.2.ensures ∙ ap judge_of (lent-rest unread l.over)) _ w.4.given.1 w.6.keys2)
-    (λ w. seek-start decode_judge decode-steady 2 decode-noise unread l.over (omega arith) w.left)
-    c.if-unread-over-eq-FRAME_START_SHORT.branch in
-    (omega arith, seek-moves decode_judge decode-steady unread l.over l.invariant.1 moves)
+    let l = c.loop-over in (
+      omega arith,
+      elim c.if-unread-over-eq-FRAME_START_SHORT.branch [
+        | then-unread-over-eq-FRAME_START_SHORT+in-Refused+in_default w ↦
+            seek-moves decode_judge decode-steady unread l.over l.invariant.1
+            (answer-moves (drop l.over unread) w.judge.result (w.judge.ensures ∙ ap judge_of (lent-rest unread l.over)) _ w.in-Refused.is w.in_default.not-IncompleteData)
+        | else-unread-over-eq-FRAME_START_SHORT w ↦
+            seek-moves decode_judge decode-steady unread l.over l.invariant.1
+            (seek-start decode_judge decode-steady 2 decode-noise unread l.over (omega arith) w.if-unread-over-eq-FRAME_START_SHORT.false)
+      ],
+    )
 
 pub returns : goal.returns
 returns c =

@@ -11,13 +11,13 @@ returns c =
     let args = c.args in
     let piece = args.piece.now in
     let buffer : buffer_of c.emptied.result ≡ emptied (moved (length piece) (buffer_of args.self)) =
-    c.emptied.ensures.is ∙ ap emptied (c.moved.ensures.is ∙ ap (moved (length piece)) c.settled.ensures.0.is) in
-    let count = c.copied.ensures.0 ∙ ap (fitting (length piece)) buffer in
+    c.emptied.ensures.is ∙ ap emptied (c.moved.ensures.is ∙ ap (moved (length piece)) c.settled.ensures.buffer_is.is) in
+    let count = c.copied.ensures.count_value ∙ ap (fitting (length piece)) buffer in
     record {
       count = count;
       after =
           record {
-            is = c.copied.ensures.1.is ∙ (λ i. copied piece (count i) (buffer i));
-            sound = c.copied.ensures.1.sound;
+            is = c.copied.ensures.buffer_is.is ∙ (λ i. copied piece (count i) (buffer i));
+            sound = c.copied.ensures.buffer_is.sound;
           };
     }
