@@ -4,4 +4,4 @@ use lib.Seq.{length-take-le}
 use Rattle.text.proofs.text.Goals as goal
 
 pub slice_bounds-result-end : goal.slice_bounds-result-end
-slice_bounds-result-end c = sym (length-take-le _ _ c.find-text.ensures.inside)
+slice_bounds-result-end c = sym (length-take-le _ _ c.find_text-found.ensures.inside)
