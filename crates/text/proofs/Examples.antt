@@ -1,5 +1,5 @@
 -- Sequences on both sides of the table's limits, computed.
-use Rattle.core.specs.Prelude.{◌≡◌, true, false, [], ◌∷◌}
+use Rattle.std.specs.Prelude.{◌≡◌, true, false, [], ◌∷◌}
 use mathlib.Core.Path.{refl}
 use Rattle.text.specs.Utf8.{within, stands, front_length, well_formed_after, well_formed}
 

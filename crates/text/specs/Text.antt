@@ -1,5 +1,5 @@
 -- Document 01, "Reply fields": the text of a name.
-use Rattle.core.specs.Prelude.{◌≡◌, ℕ, ◌-◌, ◌<◌, ◌≤◌, Bool, true, false, cond, ◌↔◌, List, [], length, get_or, take, ◌≢◌, slice_index_or}
+use Rattle.std.specs.Prelude.{◌≡◌, ℕ, ◌-◌, ◌<◌, ◌≤◌, Bool, true, false, cond, ◌↔◌, List, [], length, get_or, take, ◌≢◌, slice_index_or}
 use Rattle.refusals.specs.Refusals.{Answer, ok, refused}
 use Rattle.names.specs.Names.{nul_within}
 use Rattle.text.specs.Utf8.{well_formed, WellFormed}

@@ -1,5 +1,5 @@
 -- The Unicode Standard, table 3-7, "Well-Formed UTF-8 Byte Sequences".
-use Rattle.core.specs.Prelude.{◌≡◌, ℕ, zero, suc, Bool, true, false, cond, ◌&&◌, List, [], ◌∷◌, length, drop, nat_le}
+use Rattle.std.specs.Prelude.{◌≡◌, ℕ, zero, suc, Bool, true, false, cond, ◌&&◌, List, [], ◌∷◌, length, drop, nat_le}
 use mathlib.Core.List.{Memᴰ}
 
 -- the bytes from the first to the last, both among them

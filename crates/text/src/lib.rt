@@ -3,7 +3,7 @@
 // text a name has, and the Unicode Standard's table 3-7 what is well-formed.
 #![tactic(auto)]
 
-ghost use Rattle.core.specs.Prelude.{◌≡◌, ◌<◌, ◌&&◌, [], ◌∷◌, length, drop};
+ghost use Rattle.std.specs.Prelude.{◌≡◌, ◌<◌, ◌&&◌, [], ◌∷◌, length, drop};
 ghost use Rattle.text.specs.Utf8.{range, table, within, stands, front_length, well_formed};
 ghost use Rattle.text.specs.Text.{has_text, text_of, FoundText};
 

@@ -1,5 +1,5 @@
 -- `sequence_length` meets its contract, row by row: each test that fails leaves the rows after it, and the first that holds says the length.
-use Rattle.core.specs.Prelude.{◌≡◌, ℕ, List, []}
+use Rattle.std.specs.Prelude.{◌≡◌, ℕ, List, []}
 use mathlib.Core.Path.{refl, sym, ◌∙◌}
 use Rattle.text.specs.Utf8.{front_length}
 use Rattle.text.proofs.Rows.{row-found, row-passed}

@@ -1,5 +1,5 @@
 -- `well_formed` meets its contract. The loop's invariant: what is left is as well-formed as the whole.
-use Rattle.core.specs.Prelude.{◌-◌, drop}
+use Rattle.std.specs.Prelude.{drop}
 use mathlib.Core.Path.{refl, sym, ◌∙◌}
 use native.Mathlib.Omega.{arith}
 use lib.ListN.{length-drop}

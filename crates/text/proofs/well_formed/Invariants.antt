@@ -1,5 +1,5 @@
 -- `well_formed` meets its contract. The loop's invariant: what is left is as well-formed as the whole.
-use Rattle.core.specs.Prelude.{◌≡◌, ◌-◌, length, drop}
+use Rattle.std.specs.Prelude.{◌≡◌, ◌-◌, length, drop}
 use Rattle.text.specs.Utf8.{well_formed}
 use Rattle.text.proofs.well_formed.Given as goal
 
