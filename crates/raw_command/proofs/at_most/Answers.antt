@@ -1,6 +1,5 @@
 -- `raw_command::at_most` meets its contract. The loop's invariant: the bytes that are left say as much as all of them.
 use mathlib.Core.Path.{refl, sym, ◌∙◌}
-use Prim.Native.Nat.{◌-◌}
 use native.Mathlib.Omega.{arith}
 use Rattle.raw_command.proofs.Behind.{above, not-above, none_left}
 use Rattle.raw_command.proofs.at_most.Goals as goal

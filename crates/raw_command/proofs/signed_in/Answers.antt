@@ -6,4 +6,4 @@ use Rattle.packer.proofs.Complement.{called-i32}
 use Rattle.raw_command.proofs.signed_in.Goals as goal
 
 pub returns : goal.returns
-returns c = called-i32 c.as_i32.result _ c.as_i32.type-inv (c.as_i32.ensures ∙ ap (λ (n : ℕ). signed_of 4294967296 n) c.word_in.ensures)
+returns c = called-i32 c.as_i32.result _ c.as_i32.type_inv (c.as_i32.ensures ∙ ap (λ (n : ℕ). signed_of 4294967296 n) c.word_in.ensures)
