@@ -1,0 +1,5 @@
+-- `encode::payload_len` falls on the number of hops left.
+use Rattle.encode.proofs.+payload_len.Given as goal
+
+abbrev pub decreases-payload_len : goal.decreases-payload_len
+decreases-payload_len l = l.left
