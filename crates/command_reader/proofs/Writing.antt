@@ -1,10 +1,10 @@
 -- What writing a command back answers and leaves: a law for each way out of `write_command`.
 use mathlib.Core.Path.{◌≡◌, refl, sym, ap, ◌∙◌}
-use mathlib.Core.List.{List, ◌++◌, append_assoc, append-nil}
+use mathlib.Core.List.{List, ◌++◌, append_assoc}
 use Prim.Native.Nat.{ℕ, ◌+◌, ◌-◌, ◌≤◌, ◌<◌}
 use native.Mathlib.Omega.{arith}
-use lib.ListN.{length, take, drop, length-append, length-drop, drop_of_length-le}
-use lib.Seq.{take-length, length-take-le, drop-drop}
+use lib.ListN.{length, take, drop, length-append}
+use lib.Seq.{drop-drop}
 use borrow.Author.Tests.{eq-eqb, ne_eqb}
 use Rattle.refusals.specs.Refusals.{Answer, ok, refused, invalid_frame, payload_too_long, buffer_too_small}
 use Rattle.refusals.specs.declared.WriteBackError.TheVariants as e
@@ -67,15 +67,12 @@ module _ (hops : List ℕ) (command : RawCommand) where
 
 -- ---- the hop part, copied to its place
 
-pub copied : (l hops part : List ℕ) (end : ℕ) → end ≡ payload_at + length hops → end ≤ length l
-    → part ≡ take (length hops) hops ++ drop (length hops) (take (end - payload_at) (drop payload_at l))
+pub copied : (l hops part : List ℕ) (end : ℕ) → end ≡ payload_at + length hops → end ≤ length l → part ≡ hops
     → PackIs hops l payload_at (Next end) (take payload_at l ++ (part ++ drop (end - payload_at) (drop payload_at l)))
 unfolding written
 copied l hops part end at inside is =
-    let short : length (take (end - payload_at) (drop payload_at l)) ≤ length hops = omega (arith, length-take-le (end - payload_at) (drop payload_at l) (simp length-drop (omega arith))) in
-    let all : part ≡ hops = is ∙ rw (take-length hops, drop_of_length-le (take (end - payload_at) (drop payload_at l)) {i = length hops} short) (append-nil hops) in
     let size : end - payload_at ≡ length hops = omega arith in
     record {
       answer = ap ok at ∙ sym (fits-answer hops l payload_at (omega arith));
-      holds = rw (all, size, drop-drop (length hops) payload_at l) (sym (append_assoc (take payload_at l) hops _)) ∙ sym (fits_after hops l payload_at (omega arith));
+      holds = rw (is, size, drop-drop (length hops) payload_at l) (sym (append_assoc (take payload_at l) hops _)) ∙ sym (fits_after hops l payload_at (omega arith));
     }

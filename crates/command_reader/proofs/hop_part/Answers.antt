@@ -1,6 +1,6 @@
 -- `command_reader::hop_part` meets its contract: the part that the reading says, at its place.
 use mathlib.Core.Path.{refl, ap, ◌∙◌}
-use Prim.Native.Nat.{ℕ, ◌-◌}
+use Prim.Native.Nat.{ℕ}
 use native.Mathlib.Omega.{arith}
 use Rattle.refusals.specs.Refusals.{Answer}
 use Rattle.command_reader.specs.Reader.{read_of, part_place}

@@ -1,5 +1,4 @@
 -- `command_reader::hops_len` meets its contract. The loop's invariant: `at` bytes of hops were passed, and those of what is left are to come.
-use Prim.Native.Nat.{◌-◌}
 use native.Mathlib.Omega.{arith}
 use Rattle.command_reader.proofs.Hops.{no-pair, no-hop, a-hop}
 use Rattle.command_reader.proofs.hops_len.Goals as goal

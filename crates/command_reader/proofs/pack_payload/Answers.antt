@@ -13,5 +13,5 @@ returns c =
     let parts = s.parts in
     two-packs {p = s.hops.now} {q = parts_bytes parts}
     (omega (arith, length-append s.hops.now (parts_bytes parts), digits-length parts.width parts.number))
-    (copied s.buf.now s.hops.now _ _ refl (omega arith) c.copy.ensures.1)
+    (copied s.buf.now s.hops.now _ _ refl (omega arith) c.copy_from_slice.ensures.after)
     c.pack_parts.ensures
