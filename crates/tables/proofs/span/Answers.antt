@@ -5,12 +5,12 @@ use Rattle.tables.proofs.span.Goals as goal
 
 pub returns-in-Values : goal.returns-in-Values
 unfolding takes widths row_takes widths_by
-returns-in-Values c = rw c.enum_told.given.1 c.span_by.ensures
+returns-in-Values c = rw c.in-Values.is c.span_by.ensures
 
 pub returns-in-SetupValues : goal.returns-in-SetupValues
 unfolding takes widths row_takes widths_by
-returns-in-SetupValues c = rw c.enum-told2.given.1 c.span_by-in-SetupValues.ensures
+returns-in-SetupValues c = rw c.in-SetupValues.is c.span_by-in-SetupValues.ensures
 
 pub returns-in-Stats : goal.returns-in-Stats
 unfolding takes widths row_takes widths_by
-returns-in-Stats c = rw c.enum-told3.given.1 c.span_by-in-Stats.ensures
+returns-in-Stats c = rw c.in-Stats.is c.span_by-in-Stats.ensures
