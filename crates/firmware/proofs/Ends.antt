@@ -6,7 +6,7 @@ use Prim.Native.Nat.{ℕ, ◌+◌, ◌-◌, ◌≤◌, ◌<◌}
 use native.Mathlib.Omega.{arith}
 use native.Mathlib.Nat.{add-zero}
 use lib.ListN.{length, get_or, take, drop, replicate}
-use lib.Seq.{take-length, take_all, length-take-le}
+use lib.Seq.{take_all}
 use Rattle.refusals.specs.Refusals.{Answer, ok, refused, consumed}
 use Rattle.refusals.specs.Answers.{place_or}
 use Rattle.refusals.specs.declared.Consumed.{Consumed}
@@ -40,17 +40,16 @@ module _ (room : ℕ) (s : List ℕ) (at : ℕ) (answer : Consumed) (bytes : Lis
     unfolding after_of
     name-within = rw name-after (place_inside room s at _ refl)
 
--- twelve bytes over zeros
-pub uuid-short : (part : List ℕ) → length part < 12 → take (length part) part ++ drop (length part) (replicate 12 0) ≡ numbers_at (replicate 12 1) part 0
+-- twelve bytes, or what there is over zeros
+pub uuid-short : (part : List ℕ) → length part < 12 → part ++ drop (length part) (replicate 12 0) ≡ numbers_at (replicate 12 1) part 0
 uuid-short part h =
-    sym (front_bytes 12 part ∙ ap (λ (l : List ℕ). l ++ replicate (12 - length part) 0) (take_all 12 part (omega arith) ∙ sym (take-length part))
-    ∙ ap (λ (l : List ℕ). take (length part) part ++ l) (sym (drop-zeros 12 (length part))))
+    sym (front_bytes 12 part ∙ ap (λ (l : List ℕ). l ++ replicate (12 - length part) 0) (take_all 12 part (omega arith))
+    ∙ ap (λ (l : List ℕ). part ++ l) (sym (drop-zeros 12 (length part))))
 
-pub uuid-long : (part : List ℕ) → 12 ≤ length part
-    → take (length (take 12 part)) (take 12 part) ++ drop (length (take 12 part)) (replicate 12 0) ≡ numbers_at (replicate 12 1) part 0
+pub uuid-long : (part : List ℕ) → 12 ≤ length part → take 12 part ≡ numbers_at (replicate 12 1) part 0
 uuid-long part h =
     let none : 12 - length part ≡ 0 = omega arith in
-    sym (front_bytes 12 part ∙ rw (none, take-length, length-take-le 12 part h))
+    sym (front_bytes 12 part ∙ rw none (append-nil (take 12 part)))
 
 -- the part after hw_name, handed on from the middle
 module _ (payload : List ℕ) (end : ℕ) (inside : end ≤ length payload) (after : end ≡ after_of (name 39) payload 3) where

@@ -1,4 +1,3 @@
-pub mod Rows
 pub mod Scales
 pub mod Records
 pub mod Nearness

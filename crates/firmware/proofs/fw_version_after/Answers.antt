@@ -20,7 +20,7 @@ returns c =
     λ i. record {
       major = args.major;
       minor = args.minor;
-      hw_name = args.hw-name;
+      hw_name = args.hw_name;
       uuid = c.uuid_of-uuid.ensures i;
       pairing_done = (c.flag_at.ensures ∙ ap flag_of (sym (byte_of 8 rest 12 0 (omega arith)))) i;
       test_version_number = (c.byte_at.ensures ∙ sym (byte_of 8 rest 12 1 (omega arith))) i;

@@ -13,7 +13,7 @@ slice_bounds-fw_version_after-count c =
 
 pub slice_bounds-fw_version_after-start : goal.slice_bounds-fw_version_after-start
 slice_bounds-fw_version_after-start c =
-    let within : c.end_of-end.result ≤ length c.args.payload.now = sub-fw-version-after c in
+    let within : c.end_of-end.result ≤ length c.args.payload.now = slice_bounds-fw_version_after-count c in
     search rules
 
 pub returns : goal.returns

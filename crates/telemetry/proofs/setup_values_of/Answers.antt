@@ -10,7 +10,7 @@ use Rattle.telemetry.proofs.setup_values_of.Goals as goal
 pub returns : goal.returns
 unfolding setup_values_with setup_values_of of_int of_bits
 returns c =
-    let raw = c.args.t2 in
+    let raw = c.args.raw in
     λ i.
     record {
       mask = ap (λ (v : SetupValues). v.mask) c.setup_values_begun-values.ensures i;

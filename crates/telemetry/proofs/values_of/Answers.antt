@@ -2,6 +2,7 @@
 use mathlib.Core.Path.{ap, ◌∙◌}
 use lib.Ieee.{of_int, of_bits}
 use Rattle.codes.specs.Codes.{fault_of}
+use Rattle.packer.proofs.Complement.{called-i32}
 use Rattle.telemetry.specs.declared.Values.{Values}
 use Rattle.telemetry.specs.Telemetry.{values_with, values_of}
 use Rattle.telemetry.proofs.values_of.Goals as goal
@@ -25,8 +26,8 @@ returns c =
       amp_hours_charged = c.word_over-7.ensures i;
       watt_hours = c.word_over-8.ensures i;
       watt_hours_charged = c.word_over-9.ensures i;
-      tachometer = c.as_i32.ensures i;
-      tachometer_abs = c.as_i32-2.ensures i;
+      tachometer = called-i32 _ _ c.as_i32.type_inv c.as_i32.ensures i;
+      tachometer_abs = called-i32 _ _ c.as_i32-2.type_inv c.as_i32-2.ensures i;
       fault_code = (ap (λ (v : Values). v.fault_code) c.values_begun-values.ensures ∙ c.fault_code.ensures ∙ ap fault_of c.one_byte.ensures) i;
       pid_pos = c.word_over-10.ensures i;
       controller_id = c.one_byte-2.ensures i;
