@@ -2,7 +2,7 @@
 -- of the payload.
 use mathlib.Core.Path.{◌≡◌, refl, sym, ap, ◌∙◌}
 use mathlib.Core.List.{List, [], ◌∷◌, ◌++◌, append-nil}
-use Prim.Native.Nat.{ℕ, ◌+◌, ◌-◌, ◌≤◌, ◌<◌}
+use Prim.Native.Nat.{ℕ, ◌-◌, ◌≤◌, ◌<◌}
 use native.Mathlib.Omega.{arith}
 use native.Mathlib.Nat.{add-zero}
 use lib.ListN.{length, get_or, take, drop, replicate}
@@ -17,7 +17,7 @@ use Rattle.names.specs.Names.{Name, nul_within, name_at, named}
 use Rattle.names.proofs.Places.{given-ends}
 use Rattle.tables.proofs.Turns.{drop-zeros}
 use Rattle.layout.specs.Layout.{name, raw_of, after_of, raws}
-use Rattle.layout.specs.Replies.{fw_version_layout, fw_version_rest}
+use Rattle.layout.specs.Replies.{fw_version_rest}
 use Rattle.layout.proofs.Raws.{raws-drop}
 use Rattle.firmware.specs.Firmware.{version_by, fw_version_of}
 

@@ -8,7 +8,7 @@ use lib.ListN.{length, take, drop}
 use Rattle.refusals.specs.Refusals.{ok}
 use Rattle.refusals.specs.Answers.{place_or}
 use Rattle.refusals.proofs.Answers.{given-then}
-use Rattle.packer.specs.Numbers.{be_at, total, numbers_at}
+use Rattle.packer.specs.Numbers.{be_at, total}
 use Rattle.packer.proofs.Kept.{bytes-given}
 use Rattle.packer.proofs.Numbers.{number-own, number-drop, numbers-own, numbers-drop}
 use Rattle.names.proofs.Moved.{name-drop, name-place-drop, name-own}

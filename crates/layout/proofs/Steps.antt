@@ -1,6 +1,5 @@
 -- How the code walks a layout: from the place so far on, an item at a time.
 use mathlib.Core.Path.{◌≡◌, refl, sym, ap, ◌∙◌}
-use mathlib.Core.Bool.{Bool, true, false, cond}
 use mathlib.Core.List.{List, [], ◌∷◌}
 use Prim.Native.Nat.{ℕ, ◌+◌, ◌≤◌, ◌<◌}
 use native.Mathlib.Omega.{arith}
@@ -11,7 +10,7 @@ use Rattle.refusals.specs.Answers.{and_then}
 use Rattle.refusals.specs.declared.Consumed.{Consumed}
 use Rattle.refusals.specs.declared.Consumed.TheVariants.{To}
 use Rattle.packer.specs.Numbers.{be_at, total}
-use Rattle.packer.specs.Unpacking.{read_at, unsigned_at, consume_at}
+use Rattle.packer.specs.Unpacking.{unsigned_at, consume_at}
 use Rattle.packer.proofs.Places.{bytes-got, bytes-lacking, read-given}
 use Rattle.packer.proofs.Kept.{read-refused}
 use Rattle.tables.specs.Tables.{Field, widths}

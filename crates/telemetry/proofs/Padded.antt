@@ -1,8 +1,7 @@
 -- Zeros behind the raw numbers of a table change no record.
 use mathlib.Core.Path.{◌≡◌}
-use mathlib.Core.List.{List, ◌++◌}
+use mathlib.Core.List.{List}
 use Prim.Native.Nat.{ℕ}
-use lib.ListN.{replicate}
 use Rattle.tables.specs.Rows.{padded}
 use Rattle.tables.proofs.Widths.{zeros-behind}
 use Rattle.telemetry.specs.Telemetry.{values_with, values_of, setup_values_with, setup_values_of, stats_of}

@@ -1,5 +1,5 @@
 -- `layout::fields_end` meets its contract: the id picks the reader, or is none of the seven.
-use borrow.Author.Tests.{ne_eqb}
+use Rattle.std.proofs.Common.{rules, tests}
 use Rattle.layout.specs.Layout.{extent}
 use Rattle.layout.specs.Replies.{layout_in, fields_end}
 use Rattle.layout.proofs.fields_end.Goals as goal
@@ -34,14 +34,4 @@ returns-in-157 c = rw c.in-157.is c.fw_info_end.ensures
 
 pub returns-in_default : goal.returns-in_default
 unfolding fields_end layout_in
-returns-in_default c =
-    let no = c.in_default.in_default-own.rest in
-    simp (
-      ne_eqb _ _ no.0.0.0.0.0.0.1,
-      ne_eqb _ _ no.0.0.0.0.0.1,
-      ne_eqb _ _ no.0.0.0.0.1,
-      ne_eqb _ _ no.0.0.0.1,
-      ne_eqb _ _ no.0.0.1,
-      ne_eqb _ _ no.0.1,
-      ne_eqb _ _ no.1,
-    )
+returns-in_default c = search (tests, rules)

@@ -1,6 +1,6 @@
 -- `reply::unpack_from` meets its contract.
 use mathlib.Core.Path.{sym, ◌∙◌}
-use borrow.Author.Tests.{ne_eqb}
+use Rattle.std.proofs.Common.{rules, tests}
 use Rattle.reply.specs.Reply.{reply_of}
 use Rattle.reply.proofs.unpack_from.Goals as goal
 
@@ -34,15 +34,4 @@ returns-in-157 c = rw (sym c.byte_at-id.ensures ∙ c.in-157.is) c.unpack_fw_inf
 
 pub returns-in_default : goal.returns-in_default
 unfolding reply_of
-returns-in_default c =
-    let no = c.in_default.in_default-own.rest in
-    let id = sym c.byte_at-id.ensures in
-    rw id (simp (
-      ne_eqb _ _ no.0.0.0.0.0.0.1,
-      ne_eqb _ _ no.0.0.0.0.0.1,
-      ne_eqb _ _ no.0.0.0.0.1,
-      ne_eqb _ _ no.0.0.0.1,
-      ne_eqb _ _ no.0.0.1,
-      ne_eqb _ _ no.0.1,
-      ne_eqb _ _ no.1,
-    ) c.empty.ensures)
+returns-in_default c = search (tests, rules)

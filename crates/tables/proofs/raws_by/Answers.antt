@@ -1,6 +1,6 @@
 -- `tables::raws_by` meets its contract: storing the numbers that are left over those that are stored gives what storing all of them over zeros
 -- gives.
-use Prim.Native.Nat.{ℕ, ◌-◌}
+use Prim.Native.Nat.{ℕ}
 use mathlib.Core.Path.{refl, sym, ◌∙◌}
 use native.Mathlib.Omega.{arith}
 use lib.ListN.{length-set}

@@ -1,5 +1,4 @@
 -- `tables::span_by` meets its contract: the sum, and what the rows not yet passed take, is what all of them take.
-use Prim.Native.Nat.{◌-◌}
 use native.Mathlib.Omega.{arith}
 use Rattle.tables.proofs.Turns.{takes-most, span-next, span-past}
 use Rattle.tables.proofs.span_by.Goals as goal
