@@ -1,26 +1,28 @@
 # The three commands of README.md: `make run` does the main job, `make test` is the gate, `make check` is for the edit loop.
 .PHONY: run test check fmt
 
+# Proves and builds programs, so that tools/run finds them: each is run once, on nothing.
+built = mkdir -p target && for name in $(1); do (cd crates/$$name && rt run < /dev/null) > target/$$name.log 2>&1 || { cat target/$$name.log >&2; exit 1; }; done
+
 # Standard input through vescline, or a stored line's bytes where there is none: make run < capture
 run:
-	@mkdir -p target && rt check vescline > target/run.log 2>&1 || { cat target/run.log >&2; exit 1; }
+	@$(call built,vescline)
 	@if [ -t 0 ]; then tools/run vescline < crates/vescline/stdin; else tools/run vescline; fi
 
-# The very last line is that of `rt ci`: N passed, 0 failed.
+# The very last line is that of `rt ci`: N passed, 0 failed. It checks the layout too.
 test:
-	@rt fmt --check
 	@! awk '/^```rust/ {on = 1; next} /^```/ {on = 0} on && NF' README.md | grep -vxFf crates/example/src/main.rt || { echo "README.md shows code that crates/example does not have" >&2; exit 1; }
 	@! awk '/^ *pub fn / {on = 1} on && /^ *requires/ {print FILENAME ":" FNR} /\{$$/ {on = 0}' crates/*/src/*.rt | grep . || { echo "a public function has a requires" >&2; exit 1; }
 	@tools/ci
 
 # Proves every crate that changed and runs the programs, without the must-fail edits.
 check:
-	@rt check
+	@rt all test
 
 fmt:
-	@rt fmt
+	@for crate in crates/*/; do (cd $$crate && rt fmt) || exit 1; done
 
-# Tries the compiler's back end: interpreter, -O0, -O3, and with the compiler's assumptions checked.
+# Tries the compiler's back end: by the interpreter, and with the compiler's assumptions checked.
 .PHONY: try
 try:
 	@tools/try
@@ -43,18 +45,18 @@ ENCODES ?= 2000
 SEQUENCES ?= 400
 READS ?= 20000
 compare: oracle
-	@mkdir -p target && rt check replay vescline > target/compare.log 2>&1 || { cat target/compare.log >&2; exit 1; }
+	@$(call built,replay vescline)
 	@target/oracle/build/release/answers compare $(SEED) $(DECODES) $(ENCODES) $(SEQUENCES) $(READS) tools/run replay
 	@oracle/lines $(SEED)
 
 # Shows that the same comparison finds wrong variants of the Rust, and of the references for the gateway feed, the masks and the reader of command frames, each by name.
 variants: oracle
-	@mkdir -p target && rt check replay > target/compare.log 2>&1 || { cat target/compare.log >&2; exit 1; }
+	@$(call built,replay)
 	@SEED=$(SEED) oracle/variants $(DECODES) $(ENCODES) $(SEQUENCES) $(READS)
 
 # Times vescline against the Rust: docs/SPEED.md.
 speed:
 	@[ "$$(uname -m)" = x86_64 ] || { echo "make speed: programs are built for x86-64; on $$(uname -m) they run under an emulator, and a ratio has no meaning" >&2; exit 1; }
 	@$(MAKE) --no-print-directory oracle
-	@rt check vescline
+	@$(call built,vescline)
 	@oracle/speed

@@ -15,8 +15,10 @@ mod thin;
 mod unpackers;
 mod writes;
 
-use libc::STDIN_FILENO;
+ghost use Rattle.std.specs.Prelude.{◌≤◌, length};
+
 use shows::Line;
+use std::io::{Read, Stderr, Stdout};
 
 // The answers' text, the length of the stream at hand, and whether the input goes on.
 #[derive(Clone, Copy)]
@@ -101,11 +103,26 @@ fn too_long(text: &mut [u8], state: State, size: usize) -> State {
     now
 }
 
+// Reads until the buffer is full, the input ends or a read fails: how many bytes stand at its start.
+fn read_full(stdin: &mut impl Read, buf: &mut [u8]) -> usize
+    ensures { result ≤ length buf.new }
+{
+    let mut done: usize = 0;
+    while done < buf.len() {
+        match stdin.read(&mut buf[done..]) {
+            Ok(0) => return done,
+            Ok(count) => done += count,
+            Err(_) => return done,
+        }
+    }
+    done
+}
+
 // One case.
-fn one(text: &mut [u8], state: State, stream: &mut [u8]) -> State {
+fn one(stdin: &mut impl Read, text: &mut [u8], state: State, stream: &mut [u8]) -> State {
     let mut now = state;
     let mut head = [0u8; 3];
-    let got = io::read_full(STDIN_FILENO, &mut head);
+    let got = read_full(stdin, &mut head);
     if got == 0 {
         now.more = false;
         return now;
@@ -114,12 +131,12 @@ fn one(text: &mut [u8], state: State, stream: &mut [u8]) -> State {
         return stopped(text, now, got);
     }
     let size = shows::wide(head[1]) * 256 + shows::wide(head[2]);
-    let mut space = io::buffer();
+    let mut space = [0u8; 4096];
     if 4096 < size {
         return too_long(text, now, size);
     }
     let case = &mut space[..size];
-    let filled = io::read_full(STDIN_FILENO, case);
+    let filled = read_full(stdin, case);
     if filled < size {
         return stopped(text, now, filled + 3);
     }
@@ -136,19 +153,22 @@ fn one(text: &mut [u8], state: State, stream: &mut [u8]) -> State {
 }
 
 // The input says when it ends; the count is there only so that the loop can be proved to end.
-fn all(text: &mut [u8], start: State, stream: &mut [u8]) -> State {
+fn all(stdin: &mut impl Read, text: &mut [u8], start: State, stream: &mut [u8]) -> State {
     let mut now = start;
-    let mut turns = u64::MAX;
-    while turns > 0 && now.more {
-        now = one(text, now, stream);
-        turns -= 1;
+    for _ in 0..u64::MAX {
+        if !now.more {
+            return now;
+        }
+        now = one(stdin, text, now, stream);
     }
     now
 }
 
-fn run(text: &mut [u8], stream: &mut [u8]) {
+fn run(stdin: &mut impl Read, out: Stdout, errors: Stderr, text: &mut [u8], stream: &mut [u8]) {
     let start = State {
         line: Line {
+            out,
+            errors,
             used: 0,
             ok: true,
             sum: 1,
@@ -157,12 +177,18 @@ fn run(text: &mut [u8], stream: &mut [u8]) {
         length: 0,
         more: true,
     };
-    let end = all(text, start, stream);
+    let end = all(stdin, text, start, stream);
     shows::flushed(text, end.line);
 }
 
-fn main() {
-    let mut text = io::large_buffer();
-    let mut stream = io::buffer();
-    run(&mut text, &mut stream);
+fn main(rt: HostRuntime) {
+    let mut text = [0u8; 65536];
+    let mut stream = [0u8; 4096];
+    run(
+        &mut rt.stdin(),
+        rt.stdout(),
+        rt.stderr(),
+        &mut text,
+        &mut stream,
+    );
 }

@@ -2,13 +2,15 @@
 // writes. A word that is too much for a line (a reply has 256) goes into a digest, which oracle/answers works out alike.
 ghost use Rattle.std.specs.Prelude.{◌≡◌, ◌<◌, length};
 
-use libc::STDOUT_FILENO;
 use packer::Packed;
+use std::io::{Stderr, Stdout};
 
-// The text so far: where it ends in the buffer, and whether all that was written could be. The digest of the case at
-// hand, and whether its words are to be shown too.
+// The text so far: where it goes, and where a failure is said; where it ends in the buffer, and whether all that was
+// written could be. The digest of the case at hand, and whether its words are to be shown too.
 #[derive(Clone, Copy)]
 pub struct Line {
+    pub out: Stdout,
+    pub errors: Stderr,
     pub used: usize,
     pub ok: bool,
     pub sum: u32,
@@ -22,12 +24,14 @@ pub(crate) fn wide(byte: u8) -> usize
     byte as usize
 }
 
-fn written(bytes: &[u8]) -> bool {
-    let ok = io::write_all(STDOUT_FILENO, bytes);
-    if !ok {
-        os::fail(b"replay: standard output");
+fn written(line: Line, bytes: &[u8]) -> bool {
+    match line.out.write_all(bytes) {
+        Ok(()) => true,
+        Err(error) => {
+            let _ = eprintln!(line.errors; "replay: standard output: {error}");
+            false
+        }
     }
-    ok
 }
 
 // Writes what is gathered. A failure is said on standard error.
@@ -35,7 +39,7 @@ pub(crate) fn flushed(text: &[u8], line: Line) -> Line {
     let mut now = line;
     let used = line.used;
     if used <= text.len() {
-        let ok = written(&text[..used]);
+        let ok = written(line, &text[..used]);
         now.ok = line.ok && ok;
     }
     now.used = 0;
@@ -66,23 +70,30 @@ pub(crate) fn say(text: &mut [u8], line: Line, bytes: &[u8]) -> Line {
 
 // A number in decimal, a space before it.
 pub(crate) fn decimal(text: &mut [u8], line: Line, number: u64) -> Line {
-    let mut digits = [0u8; 20];
-    let count = io::decimal(number, &mut digits);
+    let mut digits = itoa::Buffer::new();
     let now = say(text, line, b" ");
-    say(text, now, &digits[..count])
+    say(text, now, digits.format(number).as_bytes())
 }
 
-// Bits in hexadecimal.
-fn hex(text: &mut [u8], line: Line, bits: u32, width: usize) -> Line {
-    let mut digits = [0u8; 16];
-    let count = io::hex(bits as u64, width, &mut digits);
-    say(text, line, &digits[..count])
+fn hex_digit(value: u8) -> u8
+    requires { value < 16 }
+{
+    if value < 10 {
+        b'0' + value
+    } else {
+        b'a' - 10 + value
+    }
 }
 
-// A word of 32 bits, a space before it.
+// A byte in hexadecimal, two digits.
+fn hex(text: &mut [u8], line: Line, byte: u8) -> Line {
+    let now = put(text, line, hex_digit(byte / 16));
+    put(text, now, hex_digit(byte % 16))
+}
+
+// A word of 32 bits in hexadecimal, a space before it.
 pub(crate) fn word(text: &mut [u8], line: Line, bits: u32) -> Line {
-    let now = say(text, line, b" ");
-    hex(text, now, bits, 8)
+    bytes(text, line, &bits.to_be_bytes())
 }
 
 // Bytes, two digits each, a space before them.
@@ -90,7 +101,7 @@ pub(crate) fn bytes(text: &mut [u8], line: Line, bytes: &[u8]) -> Line {
     let mut now = say(text, line, b" ");
     let mut at = 0;
     while at < bytes.len() {
-        now = hex(text, now, wide32(bytes[at]), 2);
+        now = hex(text, now, bytes[at]);
         at += 1;
     }
     now

@@ -16,30 +16,30 @@ fn state(buf: [u8; 512], rpos: usize, wpos: usize, drained: bool) -> Decoder {
     }
 }
 
-fn shown(what: &[u8], handed: Decoder) {
-    says::text(what);
+fn shown(rt: &(impl Print + Eprint), what: &str, handed: Decoder) {
+    says::text(rt, what);
     let fed = handed.gateway_feed(&[2]);
     let answer = fed.answer;
     let after = fed.decoder;
     match answer {
         Taken::Bytes(count) => {
-            says::text(b": taken ");
-            says::decimal(count as u64);
+            says::text(rt, ": taken ");
+            says::decimal(rt, count as u64);
         }
         Taken::Refused(error) => {
-            says::text(b": refused ");
-            says::decimal(error.number() as u64);
+            says::text(rt, ": refused ");
+            says::decimal(rt, error.number() as u64);
         }
     }
     let figures = after.figures();
-    says::text(b", fed ");
-    says::decimal(figures.fed);
-    says::text(b", held ");
-    says::decimal(figures.held);
-    says::text(b"\n");
+    says::text(rt, ", fed ");
+    says::decimal(rt, figures.fed);
+    says::text(rt, ", held ");
+    says::decimal(rt, figures.held);
+    says::text(rt, "\n");
 }
 
-pub(crate) fn states() {
+pub(crate) fn states(rt: &(impl Print + Eprint)) {
     let zeros = [0u8; 512];
     let mut framed = zeros;
     framed[0] = 2;
@@ -48,21 +48,28 @@ pub(crate) fn states() {
     framed[3] = 129;
     framed[4] = 169;
     framed[5] = 3;
-    shown(b"drained, a whole frame unread", state(framed, 0, 6, true));
-    shown(b"drained, 109 unread", state(zeros, 0, 109, true));
     shown(
-        b"drained, 109 unread at the end",
+        rt,
+        "drained, a whole frame unread",
+        state(framed, 0, 6, true),
+    );
+    shown(rt, "drained, 109 unread", state(zeros, 0, 109, true));
+    shown(
+        rt,
+        "drained, 109 unread at the end",
         state(zeros, 403, 512, true),
     );
-    shown(b"drained, 110 unread", state(zeros, 0, 110, true));
-    shown(b"not drained, 110 unread", state(zeros, 0, 110, false));
-    shown(b"not drained, none unread", state(zeros, 5, 5, false));
+    shown(rt, "drained, 110 unread", state(zeros, 0, 110, true));
+    shown(rt, "not drained, 110 unread", state(zeros, 0, 110, false));
+    shown(rt, "not drained, none unread", state(zeros, 5, 5, false));
     shown(
-        b"not drained, write position 513",
+        rt,
+        "not drained, write position 513",
         state(zeros, 0, 513, false),
     );
     shown(
-        b"not drained, read position past it",
+        rt,
+        "not drained, read position past it",
         state(zeros, 2, 1, false),
     );
 }

@@ -11,32 +11,32 @@ mod masks;
 mod says;
 mod worked;
 
-fn check_value() {
-    says::text(b"checksum of 123456789: ");
-    says::hex(checksum::checksum(b"123456789") as u64, 4);
-    says::text(b"\n");
+fn check_value(rt: &(impl Print + Eprint)) {
+    says::text(rt, "checksum of 123456789: ");
+    says::hex(rt, checksum::checksum(b"123456789") as u64, 4);
+    says::text(rt, "\n");
 }
 
 // The bits of a whole number's reading over 1: 4b800000 is 16777216, 4b800002 is 16777220.
-fn reading(raw: i32) {
-    says::text(b"read over 1: ");
+fn reading(rt: &(impl Print + Eprint), raw: i32) {
+    says::text(rt, "read over 1: ");
     let value = floats::scaled(raw, 1.0);
-    says::hex(floats::f32_to_bits(value) as u64, 8);
-    says::text(b"\n");
+    says::hex(rt, floats::f32_to_bits(value) as u64, 8);
+    says::text(rt, "\n");
 }
 
-fn main() {
-    check_value();
-    reading(16777217);
-    reading(16777219);
-    frames::fw_version();
-    frames::hops_before_alive();
-    frames::hops_before_set_rpm();
-    frames::million_hops();
-    frames::name_in_fw_version();
-    frames::name_in_fw_info();
-    worked::stream();
-    handed::states();
-    masks::records();
-    commands::payloads();
+fn main(rt: HostRuntime) {
+    check_value(&rt);
+    reading(&rt, 16777217);
+    reading(&rt, 16777219);
+    frames::fw_version(&rt);
+    frames::hops_before_alive(&rt);
+    frames::hops_before_set_rpm(&rt);
+    frames::million_hops(&rt);
+    frames::name_in_fw_version(&rt);
+    frames::name_in_fw_info(&rt);
+    worked::stream(&rt);
+    handed::states(&rt);
+    masks::records(&rt);
+    commands::payloads(&rt);
 }

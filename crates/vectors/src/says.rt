@@ -1,20 +1,20 @@
 // What the vectors come to, on standard output. A write that fails is said on standard error.
-use libc::STDOUT_FILENO;
+use std::io;
 
-fn checked(ok: bool) {
-    if !ok {
-        os::fail(b"vectors: standard output");
+fn checked(rt: &impl Eprint, written: io::Result<()>) {
+    if let Err(error) = written {
+        let _ = eprintln!(rt; "vectors: standard output: {error}");
     }
 }
 
-pub(crate) fn text(bytes: &[u8]) {
-    checked(io::write_all(STDOUT_FILENO, bytes));
+pub(crate) fn text(rt: &(impl Print + Eprint), text: &str) {
+    checked(rt, print!(rt; "{text}"));
 }
 
-pub(crate) fn decimal(number: u64) {
-    checked(io::print_decimal(STDOUT_FILENO, number));
+pub(crate) fn decimal(rt: &(impl Print + Eprint), number: u64) {
+    checked(rt, print!(rt; "{number}"));
 }
 
-pub(crate) fn hex(number: u64, width: usize) {
-    checked(io::print_hex(STDOUT_FILENO, number, width));
+pub(crate) fn hex(rt: &(impl Print + Eprint), number: u64, width: usize) {
+    checked(rt, print!(rt; "{number:0width$x}"));
 }

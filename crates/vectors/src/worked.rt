@@ -21,16 +21,16 @@ fn reply_at(start: Decoder) -> usize {
     0
 }
 
-pub(crate) fn stream() {
+pub(crate) fn stream(rt: &(impl Print + Eprint)) {
     let taken = Decoder::new().feed(&[2, 0, 4, 2, 1, 129, 129, 169, 3]);
     let before = taken.decoder;
     let answer = before.next();
     let after = answer.decoder;
     if !answer.given {
-        says::text(b"nothing given, ");
+        says::text(rt, "nothing given, ");
     }
-    says::decimal(after.held());
-    says::text(b" held; the reply comes at byte ");
-    says::decimal(reply_at(after) as u64);
-    says::text(b"\n");
+    says::decimal(rt, after.held());
+    says::text(rt, " held; the reply comes at byte ");
+    says::decimal(rt, reply_at(after) as u64);
+    says::text(rt, "\n");
 }

@@ -7,7 +7,8 @@ mod printing;
 mod waiting;
 
 use decoder::{Decoder, Taken};
-use libc::{STDERR_FILENO, STDIN_FILENO};
+use std::io::Read;
+use std::rt::Runtime;
 
 // The decoder, and how many bytes of text wait to be written; `ok` is false once reading or writing failed.
 #[derive(Clone, Copy)]
@@ -19,7 +20,7 @@ struct Line {
 
 // Asks until nothing comes. At most 512 bytes are unread and a frame has at least 6, so the turns are
 // never used up.
-fn asked(line: Line, text: &mut [u8]) -> Line {
+fn asked(rt: &impl Runtime, line: Line, text: &mut [u8]) -> Line {
     let mut decoder = line.decoder;
     let mut used = line.used;
     let mut ok = line.ok;
@@ -34,7 +35,7 @@ fn asked(line: Line, text: &mut [u8]) -> Line {
         let reply = answer.reply;
         let kind = reply.kind;
         if !printing::has_room(text, used) {
-            ok = ok && printing::flushed(text, used);
+            ok = ok && printing::flushed(rt, text, used);
             used = 0;
         }
         used = printing::number_line(text, used, kind.number() as u64);
@@ -44,12 +45,12 @@ fn asked(line: Line, text: &mut [u8]) -> Line {
 }
 
 // How many bytes were taken.
-fn taken_count(answer: Taken) -> usize {
+fn taken_count(rt: &impl Eprint, answer: Taken) -> usize {
     match answer {
         Taken::Bytes(count) => count,
         // Never so: `asked` leaves a drained decoder.
         Taken::Refused(_) => {
-            io::write_all(STDERR_FILENO, b"vescline: bytes refused: not drained\n");
+            let _ = eprintln!(rt; "vescline: bytes refused: not drained");
             0
         }
     }
@@ -57,7 +58,7 @@ fn taken_count(answer: Taken) -> usize {
 
 // Feeds a piece until it is taken. A drained decoder takes at least a byte of a nonempty piece, so its length
 // is turns enough.
-fn fed(line: Line, piece: &[u8], text: &mut [u8]) -> Line {
+fn fed(rt: &impl Runtime, line: Line, piece: &[u8], text: &mut [u8]) -> Line {
     let mut now = line;
     let mut at: usize = 0;
     let mut turns = piece.len();
@@ -71,8 +72,8 @@ fn fed(line: Line, piece: &[u8], text: &mut [u8]) -> Line {
         let answer = before.gateway_feed(&piece[at..]);
         let decoder = answer.decoder;
         let taken = answer.answer;
-        let count = taken_count(taken);
-        now = asked(Line { decoder, used, ok }, text);
+        let count = taken_count(rt, taken);
+        now = asked(rt, Line { decoder, used, ok }, text);
         if piece.len() - at < count {
             return now;
         }
@@ -85,9 +86,15 @@ fn fed(line: Line, piece: &[u8], text: &mut [u8]) -> Line {
 // One read, which may wait, so what is printed so far is written first. `more` is false where the input is
 // at its end or can't be read, or nothing can be written any more. A read that would block, or is
 // interrupted, is neither: it brings nothing, and the next step reads again.
-fn step(line: Line, input: &mut [u8], text: &mut [u8]) -> Stepped {
+fn step(
+    rt: &impl Runtime,
+    stdin: &mut impl Read,
+    line: Line,
+    input: &mut [u8],
+    text: &mut [u8],
+) -> Stepped {
     let decoder = line.decoder;
-    let ok = line.ok && printing::flushed(text, line.used);
+    let ok = line.ok && printing::flushed(rt, text, line.used);
     let now = Line {
         decoder,
         used: 0,
@@ -99,33 +106,34 @@ fn step(line: Line, input: &mut [u8], text: &mut [u8]) -> Stepped {
             line: now,
         };
     }
-    let got = libc::read(STDIN_FILENO, input);
-    if got < 0 {
-        if waiting::again() {
+    let count = match stdin.read(input) {
+        Ok(count) => count,
+        Err(error) => {
+            if waiting::again(rt, error) {
+                return Stepped {
+                    more: true,
+                    line: now,
+                };
+            }
+            printing::fail(rt, "standard input", error);
+            printing::figures_so_far(rt, text, decoder.figures());
             return Stepped {
-                more: true,
-                line: now,
+                more: false,
+                line: Line {
+                    decoder,
+                    used: 0,
+                    ok: false,
+                },
             };
         }
-        os::fail(b"vescline: standard input");
-        printing::figures_so_far(text, decoder.figures());
-        return Stepped {
-            more: false,
-            line: Line {
-                decoder,
-                used: 0,
-                ok: false,
-            },
-        };
-    }
-    if got == 0 {
+    };
+    if count == 0 {
         return Stepped {
             more: false,
             line: now,
         };
     }
-    let count = io::count(got, input);
-    let after = fed(now, &input[..count], text);
+    let after = fed(rt, now, &input[..count], text);
     Stepped {
         more: true,
         line: after,
@@ -139,32 +147,36 @@ struct Stepped {
 }
 
 // The count is there only so that the loop can be proved to end; no input uses it up.
-fn all(start: Line, input: &mut [u8], text: &mut [u8]) -> Line {
+fn all(
+    rt: &impl Runtime,
+    stdin: &mut impl Read,
+    start: Line,
+    input: &mut [u8],
+    text: &mut [u8],
+) -> Line {
     let mut line = start;
-    let mut turns = u64::MAX;
-    while turns > 0 {
-        let stepped = step(line, input, text);
+    for _ in 0..u64::MAX {
+        let stepped = step(rt, stdin, line, input, text);
         let after = stepped.line;
         line = after;
         if !stepped.more {
             return line;
         }
-        turns -= 1;
     }
     line
 }
 
-fn main() {
-    let mut input = io::large_buffer();
-    let mut text = io::buffer();
+fn main(rt: HostRuntime) {
+    let mut input = [0u8; 65536];
+    let mut text = [0u8; 4096];
     let start = Line {
         decoder: Decoder::new(),
         used: 0,
         ok: true,
     };
-    let end = all(start, &mut input, &mut text);
+    let end = all(&rt, &mut rt.stdin(), start, &mut input, &mut text);
     let decoder = end.decoder;
     if end.ok {
-        printing::figures(&mut text, decoder.figures());
+        printing::figures(&rt, &mut text, decoder.figures());
     }
 }

@@ -2,8 +2,10 @@
 // is checked; a failure is said on standard error.
 use crate::waiting;
 use decoder::Figures;
-use libc::{STDERR_FILENO, STDOUT_FILENO};
 use packer::Packed;
+use std::io::{Error, ErrorKind};
+use std::rt::{Files, Runtime};
+use std::{fs, str};
 
 // Whether another line fits: an id's 3 digits and the line end, in 8 bytes.
 pub(crate) fn has_room(text: &[u8], used: usize) -> bool {
@@ -31,9 +33,8 @@ fn put_all(text: &mut [u8], used: usize, bytes: &[u8]) -> usize {
 }
 
 fn put_number(text: &mut [u8], used: usize, number: u64) -> usize {
-    let mut digits = [0u8; 20];
-    let count = io::decimal(number, &mut digits);
-    put_all(text, used, &digits[..count])
+    let mut digits = itoa::Buffer::new();
+    put_all(text, used, digits.format(number).as_bytes())
 }
 
 // The number in decimal on a line of its own: where the text then ends.
@@ -48,42 +49,60 @@ enum Wrote {
     Failed,
 }
 
-// A file, not a pipe or a terminal: it has a position.
-fn is_file() -> bool {
-    libc::lseek(STDOUT_FILENO, 0, libc::SEEK_CUR) >= 0
+// Says on standard error what failed, and why in the system's words. What `Error` shows has the system's
+// number behind them: ` (os error 28)`.
+pub(crate) fn fail(rt: &(impl Eprint + Alloc), what: &str, error: Error) {
+    let said = match format!(in rt.alloc(); "{error}") {
+        Ok(text) => match text.split_once(" (os error ") {
+            Some((words, _)) => eprintln!(rt; "vescline: {what}: {words}"),
+            None => eprintln!(rt; "vescline: {what}: {text}"),
+        },
+        Err(_) => eprintln!(rt; "vescline: {what}: {error}"),
+    };
+    // Where standard error can't be written, there is nowhere left to say it.
+    let _ = said;
+}
+
+// Whether standard output is a file, not a pipe or a terminal.
+fn is_file(rt: &impl Files) -> bool {
+    match fs::metadata(rt, "/proc/self/fd/1") {
+        Ok(metadata) => metadata.is_file(),
+        Err(_) => false,
+    }
 }
 
 // One write: how many bytes it took, none where it is to be made again. A file takes part of a write only
 // where it is full, and a write after that may end in a signal (SIGXFSZ), so none is made.
-fn some_written(bytes: &[u8]) -> Wrote {
-    let got = libc::write(STDOUT_FILENO, bytes);
-    if got <= 0 {
-        if got < 0 && waiting::again() {
-            return Wrote::Bytes(0);
+fn some_written(rt: &impl Runtime, bytes: &[u8]) -> Wrote {
+    let count = match rt.write_some(bytes) {
+        Ok(count) => count,
+        Err(error) => {
+            if waiting::again(rt, error) {
+                return Wrote::Bytes(0);
+            }
+            fail(rt, "standard output", error);
+            return Wrote::Failed;
         }
-        os::fail(b"vescline: standard output");
+    };
+    if count == 0 {
+        fail(rt, "standard output", Error::from(ErrorKind::WriteZero));
         return Wrote::Failed;
     }
-    let count = io::count(got, bytes);
-    if count < bytes.len() && is_file() {
-        io::write_all(
-            STDERR_FILENO,
-            b"vescline: standard output: the file is full\n",
-        );
+    if count < bytes.len() && is_file(rt) {
+        let _ = eprintln!(rt; "vescline: standard output: the file is full");
         return Wrote::Failed;
     }
     Wrote::Bytes(count)
 }
 
 // Writes all the bytes. The count of turns is there only so that the loop can be proved to end.
-fn written(bytes: &[u8]) -> bool {
+fn written(rt: &impl Runtime, bytes: &[u8]) -> bool {
     let mut at: usize = 0;
-    let mut turns = u64::MAX;
-    while turns > 0 {
+    for _ in 0..u64::MAX {
         if bytes.len() <= at {
             return true;
         }
-        match some_written(&bytes[at..]) {
+        match some_written(rt, &bytes[at..]) {
             Wrote::Bytes(count) => {
                 if bytes.len() - at < count {
                     return true;
@@ -92,17 +111,16 @@ fn written(bytes: &[u8]) -> bool {
             }
             Wrote::Failed => return false,
         }
-        turns -= 1;
     }
     false
 }
 
 // Whether what waits could be written.
-pub(crate) fn flushed(text: &[u8], used: usize) -> bool {
+pub(crate) fn flushed(rt: &impl Runtime, text: &[u8], used: usize) -> bool {
     if text.len() < used {
         return true;
     }
-    written(&text[..used])
+    written(rt, &text[..used])
 }
 
 fn figure(text: &mut [u8], used: usize, name: &[u8], number: u64) -> usize {
@@ -121,16 +139,18 @@ fn figures_line(text: &mut [u8], used: usize, all: Figures) -> usize {
 }
 
 // Writes the last line.
-pub(crate) fn figures(text: &mut [u8], all: Figures) {
+pub(crate) fn figures(rt: &impl Runtime, text: &mut [u8], all: Figures) {
     let end = figures_line(text, 0, all);
-    flushed(text, end);
+    flushed(rt, text, end);
 }
 
 // Where the input failed, the figures go to standard error: on standard output they say that all went well.
-pub(crate) fn figures_so_far(text: &mut [u8], all: Figures) {
+pub(crate) fn figures_so_far(rt: &impl Eprint, text: &mut [u8], all: Figures) {
     let start = put_all(text, 0, b"vescline: so far ");
     let end = figures_line(text, start, all);
     if end <= text.len() {
-        io::write_all(STDERR_FILENO, &text[..end]);
+        if let Ok(line) = str::from_utf8(&text[..end]) {
+            let _ = eprint!(rt; "{line}");
+        }
     }
 }
