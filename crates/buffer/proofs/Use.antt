@@ -1,14 +1,14 @@
 -- In demand 3's use nothing is cleared. Over any decoder that loses nothing of the pieces that may be offered, and whose `next` is one search.
 use mathlib.Core.Path.{◌≡◌, refl, ap}
 use mathlib.Core.List.{List}
-use mathlib.Core.Bool.{Bool, true, false}
+use mathlib.Core.Bool.{Bool, true}
 use Prim.Native.Nat.{ℕ}
 use native.Mathlib.Omega.{arith}
 use lib.ListN.{length, take, length-append}
 use lib.Seq.{length-take-le}
 use Rattle.stream.specs.Reading.{Judge}
 use Rattle.buffer.specs.Runs.{Calls, Asked, ends, gives, Run, starts, offers, asks, recuts, InUse, is-fresh, is-fed, gave-reply, gave-nothing}
-use Rattle.buffer.specs.Runs.{Totals, none_yet, Reached, at_first, by-feed, by-reply, by-nothing}
+use Rattle.buffer.specs.Runs.{Totals, Reached, at_first, by-feed, by-reply, by-nothing}
 use Rattle.buffer.proofs.Runs.{Faithful}
 
 -- The states of a run are in use.

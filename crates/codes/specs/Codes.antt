@@ -1,11 +1,8 @@
 -- The kinds in a reply and their numbers, document 01, "Reply fields".
 use Rattle.std.specs.Prelude.{ℕ, List, [], ◌∷◌, get_or}
 use Rattle.codes.specs.declared.FaultCode.{FaultCode}
-use Rattle.codes.specs.declared.FaultCode.TheVariants as FaultCode
 use Rattle.codes.specs.declared.HwType.{HwType}
-use Rattle.codes.specs.declared.HwType.TheVariants as HwType
 use Rattle.codes.specs.declared.QmlHw.{QmlHw}
-use Rattle.codes.specs.declared.QmlHw.TheVariants as QmlHw
 
 -- "Fault bytes 0 to 29 have names, the rest are Unknown."
 abbrev pub faults : List FaultCode

@@ -1,7 +1,6 @@
 -- `checksum::checksum` meets its contract. The loop's invariant: the bytes left, from the register as it is, give the register of
 -- the whole message, which is the remainder.
 use mathlib.Core.Path.{refl, ◌∙◌}
-use Prim.Native.Nat.{◌-◌}
 use native.Mathlib.Omega.{arith}
 use borrow.Author.Rules.{rules}
 use Rattle.checksum.specs.Xmodem.{register_of}

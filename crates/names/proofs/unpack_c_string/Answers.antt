@@ -1,10 +1,10 @@
 -- `unpack_c_string` meets its contract, for every room: a found place ends the part that is copied, and the copy leaves what the name holds.
-use Rattle.std.proofs.Common.{rules, arith, ℕ, ◌-◌, ◌≤◌, ◌≡◌, length, take, drop, sym, ap, ◌∙◌}
-use lib.ListN.{length-replicate, length-drop}
+use Rattle.std.proofs.Common.{rules, arith, ◌-◌, length, sym, ap, ◌∙◌}
+use lib.ListN.{length-replicate}
 use lib.Seq.{length-take-le}
 use Rattle.names.specs.Names.{held_bytes}
 use Rattle.refusals.specs.Refusals.{consumed}
-use Rattle.names.proofs.Places.{Ends, found-ends}
+use Rattle.names.proofs.Places.{found-ends}
 use Rattle.names.proofs.Holding.{copied-held, name_of, part-length}
 use Rattle.names.proofs.unpack_c_string.Goals as goal
 
