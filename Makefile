@@ -56,7 +56,7 @@ variants: oracle
 
 # Times vescline against the Rust: docs/SPEED.md.
 speed:
-	@[ "$$(uname -m)" = x86_64 ] || { echo "make speed: programs are built for x86-64; on $$(uname -m) they run under an emulator, and a ratio has no meaning" >&2; exit 1; }
+	@[ "$$(uname -m)" = x86_64 ] || { echo "make speed: programs are built for x86-64, and this is $$(uname -m)" >&2; exit 1; }
 	@$(MAKE) --no-print-directory oracle
 	@$(call built,vescline)
 	@oracle/speed

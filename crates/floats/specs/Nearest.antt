@@ -1,6 +1,6 @@
 -- The binary32 that a whole number becomes, by IEEE 754-2019, 4.3.1, round_ties_to_even: "the floating-point number nearest to the infinitely
 -- precise result shall be delivered; if the two nearest floating-point numbers bracketing an unrepresentable infinitely precise result are
--- equally near, the one with an even least significant digit shall be delivered". The claim is on the values of `lib.Ieee`, over whole numbers
+-- equally near, the one with an even least significant digit shall be delivered". The claim is on the values of `Rattle.std.specs.Float.Ieee`, over whole numbers
 -- and without fractions.
 use Rattle.std.specs.Prelude.{◌≡◌, ℕ, ◌+◌, ◌*◌, ◌%◌, ◌≤◌, cond, T, ◌⊎◌, ℤ, to_bits, Float}
 use Rattle.std.specs.Bool.{beq}

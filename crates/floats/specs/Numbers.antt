@@ -1,4 +1,4 @@
--- Scaled numbers, document 01, "Numbers". `lib.Ieee` is the logic's account of IEEE 754: `of_int` rounds to nearest, ties to even; `to_signed 31` is
+-- Scaled numbers, document 01, "Numbers". `Rattle.std.specs.Float.Ieee` is the kit's account of IEEE 754: `of_int` rounds to nearest, ties to even; `to_signed 31` is
 -- an i32, of 31 bits and a sign.
 use Rattle.std.specs.Prelude.{ℤ, Float}
 use Rattle.std.specs.Float.Ieee as Ieee

@@ -70,7 +70,7 @@ pub fn unscaled(value: f32, scale: f32) -> i32
     f32_to_i32(value * scale)
 }
 
-// The binary32 that `bits` stand for. Rattle's `f32::from_bits` is undefined at a NaN's pattern, and
+// The binary32 that `bits` stand for. Rattle's `f32::from_bits` asks that it is no NaN's pattern, and
 // there is one NaN with no payload: each such pattern gives it.
 pub fn f32_from_bits(bits: u32) -> f32
     ensures { result ≡ Ieee.of_bits binary32 bits }

@@ -48,7 +48,7 @@ pub enum UnpackedF32 {
     Refused(DecodeError),
 }
 
-// A variant holds no array, so the bytes stand beside the answer; they are zeros on a refusal.
+// The bytes stand beside the answer; they are zeros on a refusal.
 #[derive(Clone, Copy)]
 pub struct UnpackedUuid {
     pub answer: Consumed,

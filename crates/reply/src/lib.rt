@@ -1,5 +1,5 @@
-// Replies from a VESC motor controller. Ports the second half of src/command.rs: `CommandReply`, its reading, and `decode`. An enum
-// can't hold the arrays of the Rust's variants, so a reply is a struct: the kind, and one record of each sort.
+// Replies from a VESC motor controller. Ports the second half of src/command.rs: `CommandReply`, its reading, and `decode`. It was
+// written for an older Rattle, whose enums held no arrays: a reply is a struct, the kind and one record of each sort.
 // Every function takes every slice.
 #![tactic(auto)]
 

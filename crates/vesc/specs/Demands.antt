@@ -129,8 +129,8 @@ pub record DemandOne : Type 0 where
 -- text are proved against CRC-16/XMODEM, IEEE 754 and Unicode."
 -- Bytes, readings and refusals equal the definitions that the contracts cite (docs/PROMISES.md). That the Rust's are
 -- the same is tested, not proved (docs/DIFFERENCES.md). The checksum is the remainder of long division by definition.
--- The division of a reading and the multiplication of a writing are `lib.Ieee`'s: the exact result, rounded by the same
--- `round` as here a whole number. That `lib.Ieee` is IEEE 754 is part of what is believed of the kit.
+-- The division of a reading and the multiplication of a writing are `Float.Ieee`'s (of the kit's std): the exact result, rounded by the same
+-- `round` as here a whole number. That `Float.Ieee` is IEEE 754 is part of what is believed of the kit.
 pub record DemandTwo : Type 0 where
   -- the catalogue's register gives the same sum, and the catalogue's check value is met
   pub checksum : (message : List ℕ) → register_of message ≡ checksum_of message

@@ -1,6 +1,5 @@
 -- `decoder::Decoder::next` meets its contract: by where the search ended.
 use mathlib.Core.Path.{refl}
-use Prim.Native.Nat.{◌+◌, ◌≤◌}
 use native.Mathlib.Omega.{arith}
 use Rattle.decoder.proofs.Seeking.{told, found-room, nothing-room, next-found, next-nothing}
 use Rattle.decoder.proofs.Decoder.next.Goals as goal
