@@ -240,7 +240,7 @@ def turn(path, d):
         m = re.search(r":\s*tie\.(Need-\S+|invariant-\S+|decreases-\S+|Invariant-\S+)", "\n".join(code))
         if not m:
             if "tie." in body or re.search(r"\bLts\b", body):
-                fn.trouble.append(f"a helper that names tie: {name}")
+                fn.trouble.append(f"a lemma that names tie: {name}")
             answers.append(body)
             continue
         what = m.group(1)
