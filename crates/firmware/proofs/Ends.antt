@@ -20,6 +20,7 @@ use Rattle.layout.specs.Layout.{name, raw_of, after_of, raws}
 use Rattle.layout.specs.Replies.{fw_version_rest}
 use Rattle.layout.proofs.Raws.{raws-drop}
 use Rattle.firmware.specs.Firmware.{version_by, fw_version_of}
+use Rattle.firmware.specs.RawVersion.{raw_version_by, raw_version_of}
 
 place_inside : (room : ℕ) (s : List ℕ) (at : ℕ) (answer : Answer ℕ) → nul_within room (drop at s) at ≡ answer → place_or (length s) answer ≤ length s
 place_inside room s at (ok next) e = (given-ends room s at next e).inside
@@ -66,3 +67,9 @@ module _ (payload : List ℕ) (end : ℕ) (inside : end ≤ length payload) (aft
       → version_by ((major ∷ minor ∷ []), (hw_name_bytes, raws fw_version_rest (take (length payload - end) (drop end payload)) 0)) ≡ fw_version_of payload
   unfolding fw_version_of raws raw_of after_of total
   handed-on major minor hw_name_bytes p q n = λ i. version_by (front major minor p q i, (n i, rest i))
+
+  -- and of the raw record
+  pub raw-handed-on : (major minor : ℕ) (hw_name_bytes : List ℕ) → major ≡ get_or payload 1 0 → minor ≡ get_or payload 2 0 → hw_name_bytes ≡ raw_of (name 39) payload 3
+      → raw_version_by ((major ∷ minor ∷ []), (hw_name_bytes, raws fw_version_rest (take (length payload - end) (drop end payload)) 0)) ≡ raw_version_of payload
+  unfolding raw_version_of raws raw_of after_of total
+  raw-handed-on major minor hw_name_bytes p q n = λ i. raw_version_by (front major minor p q i, (n i, rest i))

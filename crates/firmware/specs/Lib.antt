@@ -1,1 +1,3 @@
 pub mod Firmware
+pub mod Raw
+pub mod RawVersion

@@ -6,11 +6,12 @@ use Prim.Native.Nat.{ℕ, zero, suc, ◌+◌, ◌≤◌, ◌<◌}
 use native.Mathlib.Omega.{arith}
 use lib.Dec.{ltb}
 use lib.ListN.{length, get_or, take, drop, length-drop, get_or-append}
-use lib.Seq.{take-append-le, drop-append-le, take-take}
+use lib.Seq.{take-append-le, drop-append-le, take-take, get_or-drop}
 use borrow.Author.Tests.{lt-ltb, le-ltb, ltb-true}
 use Rattle.refusals.specs.Refusals.{ok, refused, incomplete_data}
 use Rattle.refusals.proofs.Answers.{Known, Kept, known-given}
 use Rattle.packer.specs.Numbers.{be_at}
+use Rattle.packer.specs.Nearness.{Bytes}
 use Rattle.packer.proofs.Kept.{read_kept, test-given, more-there}
 use Rattle.frame.specs.Frame.{short, declared, payload_in, carried, end_byte}
 use Rattle.frame.specs.Opening.{byte_at, payload_part}
@@ -56,6 +57,21 @@ payload-own n (suc zero) s before = absurd (omega arith)
 payload-own n (suc (suc end)) [] before = refl
 payload-own n (suc (suc end)) (x ∷ []) before = refl
 payload-own n (suc (suc end)) (x ∷ y ∷ s) before = take-take n end s (omega arith)
+
+-- ---- the bytes of a part are bytes
+
+taken-byte : (n : ℕ) (s : List ℕ) (at : ℕ) → Bytes s → get_or (take n s) at 0 < 256
+taken-byte zero s at b = omega arith
+taken-byte (suc n) [] at b = omega arith
+taken-byte (suc n) (first ∷ s) zero b = b 0
+taken-byte (suc n) (first ∷ s) (suc at) b = taken-byte n s at (λ k. b (suc k))
+
+pub bytes_drop : (n : ℕ) (s : List ℕ) → Bytes s → Bytes (drop n s)
+bytes_drop n s b at = rw (get_or-drop n s at 0) (b (n + at))
+
+pub payload-bytes : (s : List ℕ) → Bytes s → Bytes (payload_in short s)
+unfolding payload_in
+payload-bytes s b at = taken-byte (declared short s) (drop 2 s) at (bytes_drop 2 s b)
 
 -- ---- the parts of the short frame
 

@@ -20,6 +20,7 @@ use Rattle.packer.specs.declared.Packed.{Packed}
 use Rattle.packer.specs.declared.Packed.TheVariants.{Next, Refused}
 use Rattle.packer.proofs.Writes.{digits-length, byte, fits-answer, fits_after, after-length, two-packs}
 use Rattle.frame.specs.Frame.{short, frame_of, frame_size}
+use Rattle.frame.specs.Room.{room_answer}
 use Rattle.frame.specs.Wrapping.{wrap_answer, held_after, wrap_after, WrapIs}
 use Rattle.frame.proofs.Laws.{frame-laws}
 
@@ -37,6 +38,11 @@ module _ (n room : ℕ) where
   pub answer-fits : n ≤ payload_max → frame_size short n ≤ room → wrap_answer n room ≡ ok (frame_size short n)
   unfolding wrap_answer
   answer-fits h k = rw (le-ltb payload_max n h, le-ltb room (frame_size short n) k)
+
+  -- of a payload whose length can be said, the test of the room is left
+  pub answer-by-room : n ≤ payload_max → wrap_answer n room ≡ room_answer n room
+  unfolding wrap_answer
+  answer-by-room h = rw (le-ltb payload_max n h)
 
   -- a count is given only for a payload whose length can be said, and is that of its frame
   pub answer-given : (count : ℕ) → wrap_answer n room ≡ ok count → (n ≤ payload_max) × (count ≡ frame_size short n)

@@ -3,4 +3,5 @@ pub mod Laws
 pub mod Opening
 pub mod Opened
 pub mod Wrapping
+pub mod Room
 pub mod OneAnswer

@@ -11,6 +11,7 @@ use Rattle.refusals.specs.Refusals.{ok}
 use Rattle.refusals.proofs.Answers.{Known, known-given}
 use Rattle.packer.specs.Nearness.{Bytes}
 use Rattle.frame.specs.Frame.{short, frame_of, frame_size, declared, payload_in}
+use Rattle.frame.specs.Laws.{WrittenParts}
 use Rattle.frame.specs.Opening.{payload_part}
 use Rattle.frame.proofs.Laws.{frame-laws}
 use Rattle.frame.proofs.Places.{declared-is, payload-is}
@@ -61,6 +62,15 @@ module _ (s : List ℕ) where
 
 -- ---- as it is written
 
+-- a payload that its layout reads to its end has an id, and few bytes
+module _ (payload : List ℕ) (whole : ReadWhole payload) where
+  id-first : 1 ≤ length payload
+  id-first = (reads-fields (get_or payload 0 0)).onward payload 1 (length payload) whole
+
+  pub few : length payload ≤ 105
+  few = (reads-fields (get_or payload 0 0)).near payload 1 (length payload) whole
+
+-- the frame around it is good
 module _ (payload rest : List ℕ) (whole : ReadWhole payload) where
   abbrev slice : List ℕ
   slice = frame_of short payload ++ rest
@@ -68,31 +78,33 @@ module _ (payload rest : List ℕ) (whole : ReadWhole payload) where
   abbrev more : List ℕ
   more = drop (declared short slice) (drop 2 slice)
 
-  id-first : 1 ≤ length payload
-  id-first = (reads-fields (get_or payload 0 0)).onward payload 1 (length payload) whole
-
-  few : length payload ≤ 105
-  few = (reads-fields (get_or payload 0 0)).near payload 1 (length payload) whole
+  written-parts : WrittenParts short payload rest
+  written-parts = (frame-laws short).written payload rest (omega (arith, few payload whole))
 
   behind : drop 2 slice ≡ payload ++ more
   unfolding payload_in
-  behind =
-      sym (take-append-drop (declared short slice) (drop 2 slice))
-      ∙ ap (λ (front : List ℕ). front ++ more) ((frame-laws short).written payload rest (omega (arith, few))).carries
+  behind = sym (take-append-drop (declared short slice) (drop 2 slice)) ∙ ap (λ (front : List ℕ). front ++ more) written-parts.carries
 
   id-is : id_byte slice ≡ get_or payload 0 0
-  id-is = sym (get_or-drop 2 slice 0 0) ∙ ap (λ (l : List ℕ). get_or l 0 0) behind ∙ get_or-append payload more 0 0 id-first
+  id-is = sym (get_or-drop 2 slice 0 0) ∙ ap (λ (l : List ℕ). get_or l 0 0) behind ∙ get_or-append payload more 0 0 (id-first payload whole)
 
   known : Known (fields_end (get_or payload 0 0) payload 1)
   known = rw whole (known-given (length payload))
 
   good-slice : GoodFrame slice
   good-slice =
-      let parts = (frame-laws short).written payload rest (omega (arith, few)) in
       record {
-        framed = parts.framed;
-        fields = rw (id-is, behind) ((reads-fields (get_or payload 0 0)).same payload more 1 known ∙ whole ∙ ap ok (sym parts.says));
+        framed = written-parts.framed;
+        fields = rw (id-is, behind) ((reads-fields (get_or payload 0 0)).same payload more 1 known ∙ whole ∙ ap ok (sym written-parts.says));
       }
+
+-- and so is a slice that begins with it, whether its numbers are bytes or not
+pub begins-judged : (s : List ℕ) (count : ℕ) → Begins s count → judge_of s ≡ ok count
+begins-judged s count b =
+    let good = good-slice b.payload b.rest b.whole in
+    let parts = written-parts b.payload b.rest b.whole in
+    let size = (frame-laws short).size b.payload in
+    (good-iff s count).1 (subst GoodFrame (sym b.is) good, rw b.is (omega (arith, b.counted, size, parts.says)))
 
 written-iff : (s : List ℕ) → Bytes s → (count : ℕ) → (judge_of s ≡ ok count) ↔ Begins s count
 written-iff s bytes count = (
@@ -108,11 +120,7 @@ written-iff s bytes count = (
         whole = whole;
         counted = omega (arith, good.1, size, long);
       },
-  λ b.
-      let good = good-slice b.payload b.rest b.whole in
-      let parts = (frame-laws short).written b.payload b.rest (omega (arith, few b.payload b.rest b.whole)) in
-      let size = (frame-laws short).size b.payload in
-      (good-iff s count).1 (subst GoodFrame (sym b.is) good, rw b.is (omega (arith, b.counted, size, parts.says))),
+  begins-judged s count,
 )
 
 pub good-frames : GoodFrames

@@ -3,3 +3,4 @@ pub mod Steps
 pub mod Raws
 pub mod Replies
 pub mod Refusals
+pub mod BothWays

@@ -4,3 +4,4 @@ pub mod Holding
 pub mod Prefix
 pub mod Unique
 pub mod Moved
+pub mod Sent

@@ -14,7 +14,7 @@ use Rattle.names.proofs.Places.{given-ends}
 use Rattle.names.proofs.Prefix.{drop-take, nul-own}
 
 -- an answer so many places on
-abbrev moved : ℕ → Answer ℕ → Answer ℕ
+abbrev pub moved : ℕ → Answer ℕ → Answer ℕ
 moved by (ok next) = ok (by + next)
 moved by (refused why) = refused why
 
@@ -24,7 +24,7 @@ moved_cond true here next by on further e same = ap ok e
 moved_cond false here next by on further e same = same
 
 -- a scan from a place that is counted from further back
-nul-moved : (room : ℕ) (left : List ℕ) (by place : ℕ) → nul_within room left (by + place) ≡ moved by (nul_within room left place)
+pub nul-moved : (room : ℕ) (left : List ℕ) (by place : ℕ) → nul_within room left (by + place) ≡ moved by (nul_within room left place)
 unfolding nul_within
 nul-moved zero left by place = refl
 nul-moved (suc room) [] by place = refl

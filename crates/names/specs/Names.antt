@@ -1,10 +1,13 @@
 -- Document 01, "Reply fields": "Names hold 39 bytes in FwVersion, 47 in FwInfo, the NUL among them, zeros after it." Their room, 39 or 47, is an
 -- argument of each definition.
-use Rattle.std.specs.Prelude.{ℕ, zero, suc, ◌+◌, ◌-◌, cond, List, [], ◌∷◌, ◌++◌, take, drop, replicate, eqb}
-use Rattle.refusals.specs.Refusals.{Answer, ok, refused, consumed, incomplete_data, invalid_frame}
+use Rattle.std.specs.Prelude.{ℕ, zero, suc, ◌+◌, ◌-◌, Bool, true, ◌&&◌, cond, List, [], ◌∷◌, ◌++◌, take, drop, replicate, eqb}
+use Rattle.refusals.specs.Refusals.{Answer, ok, refused, consumed, incomplete_data, invalid_frame, bad_name}
+use Rattle.refusals.specs.Answers.{unless}
 use Rattle.refusals.specs.declared.Consumed.{Consumed}
 use Rattle.names.specs.declared.Name39.{Name39}
 use Rattle.names.specs.declared.Name47.{Name47}
+use Rattle.names.specs.declared.NameSent.{NameSent}
+use Rattle.names.specs.declared.NameSent.TheVariants.{Bytes, Bad}
 
 -- the place after the first NUL among the next `room` bytes; the bytes left are given, and the place of the first of them.
 -- "2 for a name without NUL": no room left; "A read past the end of the slice is 1": no byte left; a NUL; any other byte
@@ -42,3 +45,24 @@ named39 n = named n.answer n.bytes
 -- the name that FwInfo's sort of answer is
 abbrev pub named47 : Name47 → Name
 named47 n = named n.answer n.bytes
+
+-- The other way: how many bytes are sent of a name that is held in its room, "the NUL among them". Document 02, W4: "7 BadName (no NUL in its room, or a
+-- nonzero byte after it)"
+
+-- no byte but zeros
+unfoldable pub all_zero : List ℕ → Bool
+all_zero [] = true
+all_zero (byte ∷ bytes) = eqb byte 0 && all_zero bytes
+
+-- up to the place after the first NUL, if there is one and zeros follow it
+unfoldable pub sent_through : List ℕ → Answer ℕ → Answer ℕ
+sent_through held (ok next) = unless (all_zero (drop next held)) bad_name (ok next)
+sent_through held (refused why) = refused bad_name
+
+unfoldable pub sent_of : ℕ → List ℕ → Answer ℕ
+sent_of room held = sent_through held (nul_within room held 0)
+
+-- what `sent_len` returns
+abbrev pub name_sent : NameSent → Answer ℕ
+name_sent (Bytes count) = ok count
+name_sent Bad = refused bad_name

@@ -3,9 +3,9 @@
 // "Reply fields", has the rule.
 #![tactic(auto)]
 
-ghost use Rattle.std.specs.Prelude.{◌≡◌, drop, replicate};
+ghost use Rattle.std.specs.Prelude.{◌≡◌, length, drop, replicate};
 ghost use Rattle.format.specs.Format.{name_room, hash_room};
-ghost use Rattle.names.specs.Names.{nul_within, name_at, named, named39, named47};
+ghost use Rattle.names.specs.Names.{nul_within, name_at, named, named39, named47, all_zero, sent_of, name_sent};
 ghost use Rattle.refusals.specs.Refusals.{consumed};
 
 use refusals::{Consumed, DecodeError};
@@ -22,6 +22,13 @@ pub struct Name39 {
 pub struct Name47 {
     pub answer: Consumed,
     pub bytes: [u8; format::FW_INFO_COMMIT_HASH_MAX_LEN],
+}
+
+// How many bytes of a name are sent, the NUL among them. `Bad` is refusal 7, BadName.
+#[derive(Clone, Copy)]
+pub enum NameSent {
+    Bytes(usize),
+    Bad,
 }
 
 // The place after the first NUL among the `room` bytes from `pos` on.
@@ -75,4 +82,34 @@ pub fn unpack_c_string_47(buf: &[u8], pos: usize) -> Name47
     let mut bytes = [0u8; format::FW_INFO_COMMIT_HASH_MAX_LEN];
     let answer = unpack_c_string(buf, pos, format::FW_INFO_COMMIT_HASH_MAX_LEN, &mut bytes);
     Name47 { answer, bytes }
+}
+
+// Whether all bytes from `at` on are zeros.
+fn zeros_from(held: &[u8], at: usize) -> bool
+    ensures { result ≡ all_zero (drop at held.now) }
+{
+    let mut k = at;
+    while k < held.len() {
+        if held[k] != 0 {
+            return false;
+        }
+        k += 1;
+    }
+    true
+}
+
+// How much of a name is sent, document 02, W4; the Rust only reads names. `held` is the whole room
+// of the name. It is bad without a NUL, or with a byte other than zero after the first one.
+pub fn sent_len(held: &[u8]) -> NameSent
+    ensures { name_sent result ≡ sent_of (length held.now) held.now }
+{
+    match find_nul(held, 0, held.len()) {
+        Consumed::To(next) => {
+            if zeros_from(held, next) {
+                return NameSent::Bytes(next);
+            }
+            NameSent::Bad
+        }
+        Consumed::Refused(_) => NameSent::Bad,
+    }
 }

@@ -37,7 +37,7 @@ below-zero half n h k l =
     rw (to_z-of_z w32 _ (down_fits _ f), down _ f, le-ltb (n * 2) (half * 2) (omega arith), e)
 
 -- a signed number is at most as far from zero as the weight of its sign
-mag-below-half : (half n : ℕ) → n < half * 2 → mag (signed_of (half * 2) n) < half
+pub mag-below-half : (half n : ℕ) → n < half * 2 → mag (signed_of (half * 2) n) < half
 unfolding signed_of
 mag-below-half half n h = go (ltb (n * 2) (half * 2)) (ltb→lt (n * 2) (half * 2)) (nltb→le (n * 2) (half * 2))
   where
@@ -100,3 +100,25 @@ module _ (v : ℤ) (f : SFits w16 v) where
 
   pub widened : to_z w32 (of_z w32 (to_z w16 (of_z w16 v))) ≡ v
   widened = rw (to_z-of_z w16 v f) (to_z-of_z w32 v (record { sfits = omega (arith, f.sfits) }))
+
+-- ---- a signed number, as its bits and back
+
+pub signed_back : (half : ℕ) (z : ℤ) → mag z < half → signed_of (half * 2) (unsigned_of (half * 2) z) ≡ z
+unfolding signed_of unsigned_of
+signed_back half (pos n) fits = rw (lt-ltb (n * 2) (half * 2) (omega arith))
+signed_back half (negsuc n) fits =
+    let same : half * 2 - suc (half * 2 - suc n) ≡ n = omega arith in
+    rw (le-ltb ((half * 2 - suc n) * 2) (half * 2) (omega arith), same)
+
+pub unsigned_back : (half n : ℕ) → n < half * 2 → unsigned_of (half * 2) (signed_of (half * 2) n) ≡ n
+unfolding signed_of unsigned_of
+unsigned_back half n fits = go (ltb (n * 2) (half * 2)) refl
+  where
+    go : (low : Bool) → ltb (n * 2) (half * 2) ≡ low → unsigned_of (half * 2) (cond low (pos n) (negsuc (half * 2 - suc n))) ≡ n
+    go true e = refl
+    go false e = omega arith
+
+pub unsigned-below : (half : ℕ) (z : ℤ) → mag z < half → unsigned_of (half * 2) z < half * 2
+unfolding unsigned_of
+unsigned-below half (pos n) fits = omega arith
+unsigned-below half (negsuc n) fits = omega arith

@@ -1,12 +1,12 @@
 -- Writes of bytes into a slice: the digits of a number from its last on, a write where there is room, and two writes that are one.
 --
 use mathlib.Core.Path.{◌≡◌, refl, sym, ap, ◌∙◌}
-use mathlib.Core.List.{List, [], ◌∷◌, ◌++◌}
+use mathlib.Core.List.{List, [], ◌∷◌, ◌++◌, append_assoc}
 use Prim.Native.Nat.{ℕ, zero, suc, ◌+◌, ◌-◌, ◌/◌, ◌%◌, ◌≤◌, ◌<◌}
 use native.Mathlib.Nat.{add-zero, add-suc, suc-add, not-suc-le-zero, mod-eq_of_lt}
 use native.Mathlib.Omega.{arith}
-use lib.ListN.{length, set, length-append}
-use lib.Seq.{sets, sets-eq, length-sets, set_comm}
+use lib.ListN.{length, take, drop, set, length-append}
+use lib.Seq.{sets, sets-eq, length-sets, set_comm, drop-drop}
 use borrow.Author.Tests.{le-leb, lt-leb}
 use Rattle.refusals.specs.Refusals.{ok, refused, buffer_too_small}
 use Rattle.packer.specs.Numbers.{big_endian}
@@ -72,6 +72,17 @@ full-after bytes l at h = rw (lt-leb (at + length bytes) (length l) h)
 
 pub full-packed : (bytes l : List ℕ) (at : ℕ) → length l < at + length bytes → PackIs bytes l at (Refused BufferTooSmall) l
 full-packed bytes l at h = record { answer = sym (full-answer bytes l at h); holds = sym (full-after bytes l at h) }
+
+-- ---- bytes copied to their place, which ends at `end`
+pub copied-packed : (bytes l part : List ℕ) (at end : ℕ) → end ≡ at + length bytes → end ≤ length l → part ≡ bytes
+    → PackIs bytes l at (Next end) (take at l ++ (part ++ drop (end - at) (drop at l)))
+unfolding written
+copied-packed bytes l part at end ends inside all =
+    let size : end - at ≡ length bytes = omega arith in
+    record {
+      answer = ap ok ends ∙ sym (fits-answer bytes l at (omega arith));
+      holds = rw (all, size, drop-drop (length bytes) at l) (sym (append_assoc (take at l) bytes _)) ∙ sym (fits_after bytes l at (omega arith));
+    }
 
 -- ---- the digits of a number
 pub digits-packed : (width n : ℕ) (l : List ℕ) (at : ℕ) (after : List ℕ) → at + width ≤ length l → after ≡ written l at (big_endian width n)

@@ -1,6 +1,6 @@
 -- Numbers as bytes, document 01, "The envelope": "All numbers are big-endian." Each definition is over the width, in bytes.
 --
-use Rattle.std.specs.Prelude.{ℕ, zero, suc, ◌+◌, ◌*◌, ◌-◌, ◌/◌, ◌%◌, cond, List, [], ◌∷◌, ◌++◌, ltb, ℤ, pos, negsuc, get_or}
+use Rattle.std.specs.Prelude.{ℕ, zero, suc, ◌+◌, ◌*◌, ◌-◌, ◌/◌, ◌%◌, ◌^◌, ◌<◌, cond, List, [], ◌∷◌, ◌++◌, ltb, ℤ, pos, negsuc, get_or}
 
 -- the number that the bytes of s from a place on are, so many, the highest first
 unfoldable pub be_at : List ℕ → ℕ → ℕ → ℕ
@@ -21,6 +21,19 @@ total (width ∷ widths) = width + total widths
 unfoldable pub numbers_at : List ℕ → List ℕ → ℕ → List ℕ
 numbers_at [] s at = []
 numbers_at (width ∷ widths) s at = be_at s at width ∷ numbers_at widths s (at + width)
+
+-- and their bytes, each number in its width. A number of no bytes has none, whatever it is
+unfoldable pub digits : List ℕ → List ℕ → List ℕ
+digits [] ns = []
+digits (width ∷ widths) [] = []
+digits (width ∷ widths) (n ∷ ns) = big_endian width n ++ digits widths ns
+
+-- as many numbers as widths, and each has bytes enough: one of no bytes is 0
+abbrev pub Below : List ℕ → List ℕ → Type 0
+Below [] [] = Unit {0}
+Below [] (n ∷ ns) = ⊥
+Below (width ∷ widths) [] = ⊥
+Below (width ∷ widths) (n ∷ ns) = (n < 256 ^ width) × Below widths ns
 
 -- two's complement among so many numbers (256 ^ width): one from the middle on stands for itself less all of them
 unfoldable pub signed_of : ℕ → ℕ → ℤ

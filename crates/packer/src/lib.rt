@@ -270,6 +270,13 @@ pub fn as_u32(value: i32) -> u32
     unsigned(4294967295, value)
 }
 
+// The Rust's `value as u16`, in a u32.
+pub fn as_u16(value: i16) -> u32
+    ensures { result ≡ unsigned_of (256 ^ 2) value }
+{
+    unsigned(65535, value as i32)
+}
+
 pub fn pack_u32(buf: &mut [u8], pos: usize, value: u32) -> Packed
     ensures { PackIs (big_endian 4 value) buf.old pos result buf.new }
 {
@@ -291,7 +298,7 @@ pub fn pack_u16(buf: &mut [u8], pos: usize, value: u16) -> Packed
 pub fn pack_i16(buf: &mut [u8], pos: usize, value: i16) -> Packed
     ensures { PackIs (big_endian 2 (unsigned_of (256 ^ 2) value)) buf.old pos result buf.new }
 {
-    pack_be(buf, pos, 2, unsigned(65535, value as i32))
+    pack_be(buf, pos, 2, as_u16(value))
 }
 
 pub fn pack_u8(buf: &mut [u8], pos: usize, value: u8) -> Packed
@@ -305,4 +312,21 @@ pub fn pack_f32(buf: &mut [u8], pos: usize, value: f32, scale: f32) -> Packed
     ensures { PackIs (big_endian 4 (unsigned_of (256 ^ 4) (times_scale value scale))) buf.old pos result buf.new }
 {
     pack_i32(buf, pos, floats::unscaled(value, scale))
+}
+
+// Bytes as they are, all of them or none.
+pub fn pack_bytes(buf: &mut [u8], pos: usize, part: &[u8]) -> Packed
+    ensures { PackIs part.now buf.old pos result buf.new }
+{
+    let room = buf.len();
+    let len = part.len();
+    if room < len {
+        return Packed::Refused(EncodeError::BufferTooSmall);
+    }
+    if room - len < pos {
+        return Packed::Refused(EncodeError::BufferTooSmall);
+    }
+    let end = pos + len;
+    buf[pos..end].copy_from_slice(part);
+    Packed::Next(end)
 }

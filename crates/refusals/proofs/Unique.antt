@@ -3,7 +3,7 @@ use mathlib.Core.Path.{◌≡◌, refl, sym, ap, ◌∙◌}
 use mathlib.Core.Bool.{cond}
 use lib.Dec.{eqb}
 use lib.ListN.{get_or}
-use Rattle.refusals.specs.Refusals.{Refusal, Answer, ok, refused, decode_refusal, encode_refusal, write_back_refusal, feed_refusal, consumed}
+use Rattle.refusals.specs.Refusals.{Refusal, Answer, ok, refused, decode_refusal, encode_refusal, write_back_refusal, reply_write_refusal, feed_refusal, consumed}
 use Rattle.refusals.specs.OneAnswer.{ToldApart, OneAnswer}
 use Rattle.refusals.specs.declared.DecodeError.{DecodeError}
 use Rattle.refusals.specs.declared.DecodeError.TheVariants.{IncompleteData, InvalidFrame, UnknownPacket, ChecksumMismatch}
@@ -13,6 +13,8 @@ use Rattle.refusals.specs.declared.EncodeError.{EncodeError}
 use Rattle.refusals.specs.declared.EncodeError.TheVariants.{BufferTooSmall, PayloadTooLong}
 use Rattle.refusals.specs.declared.WriteBackError.{WriteBackError}
 use Rattle.refusals.specs.declared.WriteBackError.TheVariants as w
+use Rattle.refusals.specs.declared.ReplyWriteError.{ReplyWriteError}
+use Rattle.refusals.specs.declared.ReplyWriteError.TheVariants as r
 use Rattle.refusals.specs.declared.FeedError.{FeedError}
 use Rattle.refusals.specs.declared.FeedError.TheVariants.{NotDrained}
 
@@ -51,6 +53,15 @@ write-back-back w.InvalidFrame = refl
 write-back-back w.PayloadTooLong = refl
 write-back-back w.BufferTooSmall = refl
 
+pub reply_write_back : Refusal → ReplyWriteError
+reply_write_back why = cond (eqb why.number 8) r.UnknownMaskBits (cond (eqb why.number 7) r.BadName r.BufferTooSmall)
+
+pub reply-write-back : (e : ReplyWriteError) → reply_write_back (reply_write_refusal e) ≡ e
+unfolding reply_write_back
+reply-write-back r.UnknownMaskBits = refl
+reply-write-back r.BadName = refl
+reply-write-back r.BufferTooSmall = refl
+
 -- there is only one
 pub feed_back : Refusal → FeedError
 feed_back r = NotDrained
@@ -82,6 +93,7 @@ one_answer =
       decode-errors = told-apart decode_refusal decode_back decode-back;
       encode-errors = told-apart encode_refusal encode_back encode-back;
       write-back-errors = told-apart write_back_refusal write_back_back write-back-back;
+      reply-write-errors = told-apart reply_write_refusal reply_write_back reply-write-back;
       feed-errors = told-apart feed_refusal feed_back feed-back;
       consumes = consumed-unique;
     }

@@ -9,6 +9,8 @@ use Rattle.refusals.specs.declared.EncodeError.{EncodeError}
 use Rattle.refusals.specs.declared.EncodeError.TheVariants.{BufferTooSmall, PayloadTooLong}
 use Rattle.refusals.specs.declared.WriteBackError.{WriteBackError}
 use Rattle.refusals.specs.declared.WriteBackError.TheVariants as w
+use Rattle.refusals.specs.declared.ReplyWriteError.{ReplyWriteError}
+use Rattle.refusals.specs.declared.ReplyWriteError.TheVariants as r
 use Rattle.refusals.specs.declared.FeedError.{FeedError}
 use Rattle.refusals.specs.declared.FeedError.TheVariants.{NotDrained}
 
@@ -41,6 +43,14 @@ buffer_too_small = record { number = 5; values = [] }
 abbrev pub payload_too_long : Refusal
 payload_too_long = record { number = 6; values = [] }
 
+-- 7 BadName (W4): nothing; buffer unchanged
+abbrev pub bad_name : Refusal
+bad_name = record { number = 7; values = [] }
+
+-- 8 UnknownMaskBits (W4): nothing; buffer unchanged
+abbrev pub unknown_mask_bits : Refusal
+unknown_mask_bits = record { number = 8; values = [] }
+
 -- 15 NotDrained (W12): nothing; nothing changed
 abbrev pub not_drained : Refusal
 not_drained = record { number = 15; values = [] }
@@ -72,6 +82,12 @@ abbrev pub write_back_refusal : WriteBackError → Refusal
 write_back_refusal w.InvalidFrame = invalid_frame
 write_back_refusal w.PayloadTooLong = payload_too_long
 write_back_refusal w.BufferTooSmall = buffer_too_small
+
+-- the refusals of writing a reply
+abbrev pub reply_write_refusal : ReplyWriteError → Refusal
+reply_write_refusal r.UnknownMaskBits = unknown_mask_bits
+reply_write_refusal r.BadName = bad_name
+reply_write_refusal r.BufferTooSmall = buffer_too_small
 
 -- the refusals of the gateway feed
 abbrev pub feed_refusal : FeedError → Refusal

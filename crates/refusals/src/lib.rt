@@ -3,7 +3,7 @@
 #![tactic(auto)]
 
 ghost use Rattle.std.specs.Prelude.{◌≡◌};
-ghost use Rattle.refusals.specs.Refusals.{decode_refusal, encode_refusal, write_back_refusal, feed_refusal};
+ghost use Rattle.refusals.specs.Refusals.{decode_refusal, encode_refusal, write_back_refusal, reply_write_refusal, feed_refusal};
 
 // Why a slice is not read.
 #[derive(Clone, Copy)]
@@ -33,6 +33,14 @@ pub enum EncodeError {
 pub enum WriteBackError {
     InvalidFrame,
     PayloadTooLong,
+    BufferTooSmall,
+}
+
+// Why a reply is not written.
+#[derive(Clone, Copy)]
+pub enum ReplyWriteError {
+    UnknownMaskBits,
+    BadName,
     BufferTooSmall,
 }
 
@@ -80,6 +88,19 @@ impl WriteBackError {
             WriteBackError::InvalidFrame => 2,
             WriteBackError::PayloadTooLong => 6,
             WriteBackError::BufferTooSmall => 5,
+        }
+    }
+}
+
+impl ReplyWriteError {
+    // Document 02's number.
+    pub fn number(self) -> u8
+        ensures { result ≡ (reply_write_refusal self).number }
+    {
+        match self {
+            ReplyWriteError::UnknownMaskBits => 8,
+            ReplyWriteError::BadName => 7,
+            ReplyWriteError::BufferTooSmall => 5,
         }
     }
 }

@@ -1,17 +1,18 @@
--- A mask asked for bits: by the and of numbers, one bit alone, and bits joined.
+-- A mask asked for bits: by the and of numbers, one bit alone, bits joined, and bits below a place.
 use mathlib.Core.Bool.{Bool, true, false}
 use mathlib.Core.Logic.{◌↔◌}
 use mathlib.Core.Path.{◌≡◌, refl, sym, ap, ap₂, ◌∙◌}
 use Prim.Native.Nat.{ℕ, zero, suc, ◌+◌, ◌*◌, ◌/◌, ◌%◌, ◌^◌, ◌≤◌, ◌<◌}
-use native.Mathlib.Nat.{mod-lt, zero-div, div-one, div_self, div-add-mod', div-div-eq-div-mul, mul_comm, mul-mod_left, mul-div_cancel, pow-suc, min-eq_right}
+use native.Mathlib.Nat.{mod-lt, zero-div, div-one, div_self, div-add-mod', div-div-eq-div-mul, mul_comm, mul-mod_left, mul-div_cancel, pow-suc, min-eq_right, lt_of_not-le, div-lt_iff_lt-mul}
 use native.Mathlib.Omega.{arith}
-use borrow.Author.Tests.{eq-eqb, eqb-true, eqb-false}
+use borrow.Author.Tests.{eq-eqb, eqb-true, eqb-false, ltb-true, lt-ltb}
 use lib.Arith.{bin_ind}
 use lib.Bits.{bit_and, bit_or, and_step, and_zero_r, and_shr, and_mod, and_le_l, and_le_r, or_shr, or_mod, or_lt, or_add_and}
 use lib.Dec.{eqb}
-use lib.Pow.{pow_pos}
+use lib.Pow.{pow_pos, pow_mono, shr-shr}
 use Rattle.tables.specs.Tables.{has_bit}
-use Rattle.tables.specs.Bits.{HasBits, AskedBits}
+use Rattle.tables.specs.Bits.{HasBits, AskedBits, KnownBits}
+use Rattle.tables.specs.Sorts.{mask_bits, known_bits}
 
 -- ---- a bit as a digit
 
@@ -135,4 +136,39 @@ asked-bits =
         λ h k e. or-either a b k e (h.0 k) (h.1 k),
       );
       answer = λ mask bits. same_answer;
+    }
+
+-- ---- bits below a place
+
+-- a number below 2 ^ n has no bit from n on
+bits-low : (n mask k : ℕ) → mask < 2 ^ n → has_bit mask k ≡ true → k < n
+bits-low n mask k small has =
+    lt_of_not-le (λ above.
+    let gone : mask / 2 ^ k < 1 = (div-lt_iff_lt-mul (pow_pos k)).1 (omega (arith, small, pow_mono above)) in
+    absurd (omega (arith, set mask k has, gone)))
+
+-- a number without bits is 0
+without : (n : ℕ) → ((k : ℕ) → has_bit n k ≡ true → ⊥) → n ≡ 0
+without n none = sym (kept n 0 (λ k e. absurd (none k e)))
+
+-- bit k of a number's bits from n on is its bit n + k
+from : (mask n k : ℕ) → has_bit (mask / 2 ^ n) k ≡ has_bit mask (n + k)
+unfolding has_bit
+from mask n k = ap (λ (m : ℕ). eqb (m % 2) 1) (shr-shr mask n k)
+
+-- a number that has none from n on is below 2 ^ n
+low_bits : (n mask : ℕ) → ((k : ℕ) → has_bit mask k ≡ true → k < n) → mask < 2 ^ n
+low_bits n mask low =
+    let gone : mask / 2 ^ n ≡ 0 = without (mask / 2 ^ n) (λ k e. let past = low (n + k) (sym (from mask n k) ∙ e) in omega arith) in
+    let small : mask < 1 * 2 ^ n = (div-lt_iff_lt-mul (pow_pos n)).0 (omega arith) in
+    omega arith
+
+pub known-bits : KnownBits
+unfolding known_bits
+known-bits =
+    record {
+      known = λ sort mask. (
+        λ e k. bits-low (mask_bits sort) mask k (ltb-true mask (2 ^ mask_bits sort) e),
+        λ low. lt-ltb mask (2 ^ mask_bits sort) (low_bits (mask_bits sort) mask low),
+      );
     }

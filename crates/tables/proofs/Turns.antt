@@ -9,12 +9,17 @@ use native.Mathlib.Numerals.{add-one}
 use borrow.Author.Tests.{eq-eqb, ne_eqb}
 use lib.Dec.{T, leb, leb→le}
 use lib.Ieee.Fits.{and_l, and_r}
-use lib.ListN.{length, get_or, take, drop, replicate, set, drop_of_length-le}
+use lib.ListN.{length, get_or, take, drop, replicate, set, drop_of_length-le, length-drop}
 use lib.Seq.{sets, sets-eq, drop-cons}
 use Rattle.format.specs.Format.{table_rows}
-use Rattle.packer.specs.Numbers.{be_at, total, numbers_at}
+use Rattle.packer.specs.Numbers.{be_at, big_endian, total, numbers_at, digits}
+use Rattle.packer.specs.Packing.{PackIs}
+use Rattle.packer.specs.declared.Packed.{Packed}
+use Rattle.packer.specs.declared.Packed.TheVariants.{Next}
 use Rattle.packer.proofs.Places.{lent-whole}
 use Rattle.packer.proofs.Numbers.{number-drop, numbers-length, numbers-drop}
+use Rattle.packer.proofs.Digits.{digits-total}
+use Rattle.packer.proofs.Writes.{digits-length, after-length, two-packs, none-packed}
 use Rattle.tables.specs.Tables.{has_bit}
 use Rattle.tables.specs.Rows.{row_takes, widths_by, narrow, Rows, padded}
 
@@ -56,6 +61,17 @@ width-at mask [] k l = absurd (omega arith)
 width-at mask (row ∷ rows) zero l = refl
 width-at mask (row ∷ rows) (suc k) l = width-at mask rows k (omega arith)
 
+-- the bytes of a table's rows from the row k on are as many as their widths say
+pub rows-size
+    : (mask : ℕ) (rows raw : List ℕ) (k : ℕ) → length rows ≤ length raw
+    → length (digits (drop k (widths_by mask rows)) (drop k raw)) ≡ total (drop k (widths_by mask rows))
+rows-size mask rows raw k l =
+    digits-total (drop k (widths_by mask rows)) (drop k raw) (omega (arith, length-drop k (widths_by mask rows), length-drop k raw, widths-length mask rows))
+
+-- the turns of a writing walk: what is left to write, into the slice as it is now, makes what all of it makes of the slice as it was
+abbrev pub Onward : List ℕ → List ℕ → ℕ → List ℕ → List ℕ → ℕ → Type 0
+Onward rest buf at all first pos = (r : Packed) (after : List ℕ) → PackIs rest buf at r after → PackIs all first pos r after
+
 module _ (mask : ℕ) (rows : List ℕ) (k taken : ℕ) (l : k < length rows) (e : taken ≡ row_takes mask (get_or rows k 0)) where
   next : drop k (widths_by mask rows) ≡ taken ∷ drop (k + 1) (widths_by mask rows)
   next = rw (e, ← width-at mask rows k l, add-one) (drop-cons (widths_by mask rows) k 0 (rw (widths-length mask rows) l))
@@ -71,6 +87,32 @@ module _ (mask : ℕ) (rows : List ℕ) (k taken : ℕ) (l : k < length rows) (e
   unfolding numbers_at
   stored_next s raw at number n = rw (next, n, add-one)
 
+  -- and their bytes: those of this row's number, then those from the next row on
+  digits-next : (raw : List ℕ) → k < length raw
+      → digits (drop k (widths_by mask rows)) (drop k raw)
+      ≡ big_endian taken (get_or raw k 0) ++ digits (drop (k + 1) (widths_by mask rows)) (drop (k + 1) raw)
+  unfolding digits
+  digits-next raw inside = rw (next, drop-cons raw k 0 inside, add-one)
+
+  -- this row's number written: the slice is as long as before, and what is left to write comes behind it
+  module _ (raw : List ℕ) {buf m : List ℕ} {at : ℕ} {r : Packed} (long : length rows ≤ length raw) (room : at + total (drop k (widths_by mask rows)) ≤ length buf)
+      (wrote : PackIs (big_endian taken (get_or raw k 0)) buf at r m) where
+    abbrev rest : List ℕ
+    rest = digits (drop (k + 1) (widths_by mask rows)) (drop (k + 1) raw)
+
+    pub written-length : length m ≡ length buf
+    written-length =
+        ap length wrote.holds
+        ∙ after-length (big_endian taken (get_or raw k 0)) buf at (omega (arith, digits-length taken (get_or raw k 0), span-next))
+
+    pub written_next : {all first : List ℕ} {pos : ℕ} → Onward (digits (drop k (widths_by mask rows)) (drop k raw)) buf at all first pos
+        → Onward rest m (at + taken) all first pos
+    written_next on s after w =
+        let both = digits-next raw (omega arith) in
+        let size : at + length (big_endian taken (get_or raw k 0) ++ rest) ≤ length buf = omega (arith, ap length both, rows-size mask rows raw k long) in
+        on s after
+        (rw both (two-packs {p = big_endian taken (get_or raw k 0)} {q = rest} size wrote (rw (digits-length taken (get_or raw k 0)) w)))
+
 -- ---- after the last row
 
 module _ (mask : ℕ) (rows : List ℕ) (k : ℕ) (l : length rows ≤ k) where
@@ -84,6 +126,11 @@ module _ (mask : ℕ) (rows : List ℕ) (k : ℕ) (l : length rows ≤ k) where
   pub stored_past : (s raw : List ℕ) (at : ℕ) → sets raw k (numbers_at (drop k (widths_by mask rows)) s at) ≡ raw
   unfolding numbers_at
   stored_past s raw at = rw past
+
+  pub written-past : (raw : List ℕ) {buf all first : List ℕ} {at pos : ℕ} → at ≤ length buf
+      → Onward (digits (drop k (widths_by mask rows)) (drop k raw)) buf at all first pos → PackIs all first pos (Next at) buf
+  unfolding digits
+  written-past raw {buf} {at} room on = on (Next at) buf (rw past (none-packed buf at room))
 
 -- ---- all of them stored over zeros
 

@@ -1,5 +1,5 @@
 -- The masked replies, document 01, "Reply fields": the field tables, once, and the widths that a mask leaves of them.
-use Rattle.std.specs.Prelude.{ℕ, ◌+◌, ◌/◌, ◌%◌, ◌^◌, Bool, cond, List, [], ◌∷◌, eqb}
+use Rattle.std.specs.Prelude.{ℕ, ◌+◌, ◌/◌, ◌%◌, ◌^◌, Bool, cond, List, [], ◌∷◌, eqb, get_or}
 
 -- "h_s is a signed 16-bit number over S, w_s a signed 32-bit number over S, i and u signed and unsigned 32-bit, b a byte, F a binary32 by its bits."
 -- `fault_byte` is the b of fault_code: "Fault bytes 0 to 29 have names".
@@ -101,6 +101,10 @@ stats_table =
     ∷ field 9 F  -- temp_motor_max
     ∷ field 10 F  -- count_time
     ∷ []
+
+-- the entry at a place of a table
+abbrev pub entry : List Field → ℕ → Field
+entry table k = get_or table k (field 0 b)
 
 -- whether a mask has a bit
 unfoldable pub has_bit : ℕ → ℕ → Bool

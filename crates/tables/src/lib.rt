@@ -1,15 +1,19 @@
 // The raw numbers of the masked replies: one walk over a table of bits and widths, whichever reply it
 // is. Ports the field reading of `unpack_get_values_selective`, `unpack_get_values_setup_selective`
 // and `unpack_get_stats` of src/command.rs. A byte past the end of a slice is read as 0: `judge` has
-// seen that a good frame has every byte.
+// seen that a good frame has every byte. Document 02, W4, has them written by the same tables.
 #![tactic(auto)]
 
 ghost use Rattle.std.specs.Prelude.{true, ◌↔◌, ◌≡◌, ◌≤◌, ◌<◌, length, drop, get_or};
-ghost use Rattle.packer.specs.Numbers.{be_at, total, numbers_at};
+ghost use Rattle.packer.specs.Numbers.{be_at, total, numbers_at, digits};
+ghost use Rattle.packer.specs.Packing.{PackIs};
 ghost use Rattle.tables.specs.Tables.{widths};
 ghost use Rattle.tables.specs.Bits.{HasBits};
-ghost use Rattle.tables.specs.Sorts.{table_of};
+ghost use Rattle.tables.specs.Sorts.{table_of, known_bits};
 ghost use Rattle.tables.specs.Rows.{Rows, row_takes, widths_by, padded};
+
+use packer::Packed;
+use refusals::EncodeError;
 
 // Which record a masked reply carries, and so which table it goes by.
 #[derive(Clone, Copy)]
@@ -24,6 +28,17 @@ pub fn has_bits(mask: u32, bits: u32) -> bool
     ensures { (result ≡ true) ↔ HasBits mask bits }
 {
     mask & bits == bits
+}
+
+// Whether a mask has no bit but those of the reply's table.
+pub fn known_bits(sort: Sort, mask: u32) -> bool
+    ensures { result ≡ known_bits sort mask }
+{
+    match sort {
+        Sort::Values => mask < 1 << format::VALUES_BITS,
+        Sort::SetupValues => mask < 1 << format::SETUP_BITS,
+        Sort::Stats => mask < 1 << format::STATS_BITS,
+    }
 }
 
 // A table is a row a field, in the order sent: 8 times the mask's bit that governs the field, and the
@@ -215,4 +230,54 @@ pub fn unpack_fields(buf: &[u8], pos: usize, sort: Sort, mask: u32) -> [u32; for
 {
     let start = within(buf, pos);
     raws(&buf[start..], sort, mask)
+}
+
+// Writes the fields of a table that a mask has, one after the other from `pos` on. The room for all of
+// them is judged first, so a refusal writes nothing.
+fn pack_by(
+    buf: &mut [u8],
+    pos: usize,
+    mask: u32,
+    rows: &[u8],
+    raw: [u32; format::TABLE_ROWS],
+) -> Packed
+    requires { Rows rows.now }
+    ensures { PackIs (digits (widths_by mask rows.now) raw) buf.old pos result buf.new }
+{
+    let size = span_by(mask, rows);
+    let room = buf.len();
+    if room < size {
+        return Packed::Refused(EncodeError::BufferTooSmall);
+    }
+    if room - size < pos {
+        return Packed::Refused(EncodeError::BufferTooSmall);
+    }
+    let mut at = pos;
+    let mut k: usize = 0;
+    while k < rows.len() {
+        let taken = takes(mask, rows[k]);
+        packer::pack_be(buf, at, taken, raw[k]);
+        at += taken;
+        k += 1;
+    }
+    Packed::Next(at)
+}
+
+// Writes at `pos` the fields of a masked reply that a mask has, in the table's order, from their raw
+// numbers: all of them, or nothing where the room is too small. The number of a field that the mask
+// lacks is not looked at.
+pub fn pack_fields(
+    buf: &mut [u8],
+    pos: usize,
+    sort: Sort,
+    mask: u32,
+    raw: [u32; format::TABLE_ROWS],
+) -> Packed
+    ensures { PackIs (digits (widths mask (table_of sort)) raw) buf.old pos result buf.new }
+{
+    match sort {
+        Sort::Values => pack_by(buf, pos, mask, &VALUES_TABLE, raw),
+        Sort::SetupValues => pack_by(buf, pos, mask, &SETUP_TABLE, raw),
+        Sort::Stats => pack_by(buf, pos, mask, &STATS_TABLE, raw),
+    }
 }

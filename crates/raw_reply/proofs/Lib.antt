@@ -1,0 +1,4 @@
+pub mod Answers
+pub mod OfKind
+pub mod Laws
+pub mod Unique

@@ -1,0 +1,3 @@
+pub mod RawReply
+pub mod Reading
+pub mod Laws

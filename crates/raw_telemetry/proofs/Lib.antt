@@ -1,0 +1,4 @@
+pub mod Needs
+pub mod Rows
+pub mod Padded
+pub mod Laws

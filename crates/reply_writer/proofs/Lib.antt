@@ -1,0 +1,8 @@
+pub mod Names
+pub mod Each
+pub mod Payloads
+pub mod Firmware
+pub mod Writing
+pub mod Sent
+pub mod Laws
+pub mod Unique

@@ -1,0 +1,330 @@
+// A raw reply written as a frame: document 02, W4. The Rust only reads replies. The frame holds what `raw_reply::read_reply` reads: the id,
+// then the fields that the mask has, by the tables of crate `tables`, or the bytes and names of a firmware reply.
+#![tactic(auto)]
+
+ghost use Rattle.std.specs.Prelude.{◌≡◌, true, ◌&&◌, ◌∷◌, ◌+◌, ◌≤◌, length, take, replicate};
+ghost use Rattle.refusals.specs.Answers.{place_or};
+ghost use Rattle.format.specs.Format.{payload_at, payload_max, name_room, hash_room, all_values};
+ghost use Rattle.packer.specs.Numbers.{total, digits};
+ghost use Rattle.packer.specs.Packing.{PackIs};
+ghost use Rattle.names.specs.Names.{sent_of};
+ghost use Rattle.tables.specs.Tables.{widths, values_table};
+ghost use Rattle.tables.specs.Sorts.{table_of};
+ghost use Rattle.layout.specs.Layout.{mask_widths};
+ghost use Rattle.layout.specs.Replies.{fw_version_layout, fw_version_rest, fw_info_layout};
+ghost use Rattle.layout.specs.Writing.{written};
+ghost use Rattle.firmware.specs.RawVersion.{version_raws, info_raws};
+ghost use Rattle.raw_telemetry.specs.Rows.{numbers_of};
+ghost use Rattle.raw_telemetry.specs.Records.{values_rows};
+ghost use Rattle.reply.specs.Reply.{kind_number};
+ghost use Rattle.reply.specs.declared.Kind.TheVariants as kind;
+ghost use Rattle.reply_writer.specs.Writer.{is_name, known_mask, good_names, payload_of, WriteIs};
+
+use firmware::{FwInfo, RawFwVersion};
+use format::{FRAME_EXTRA, PAYLOAD_AT};
+use names::NameSent;
+use packer::Packed;
+use raw_reply::RawReply;
+use raw_telemetry::RawValues;
+use refusals::ReplyWriteError;
+use reply::Kind;
+use tables::Sort;
+
+// What `write_reply` returns: how many bytes the frame has, or the refusal.
+#[derive(Clone, Copy)]
+pub enum ReplyWritten {
+    Written(usize),
+    Refused(ReplyWriteError),
+}
+
+// Whether the mask of the kind that is written has no bit but its table's. GetValues sends no mask.
+fn known_mask(reply: RawReply) -> bool
+    ensures { result ≡ known_mask reply }
+{
+    let kind = reply.kind;
+    match kind {
+        Kind::FwVersion => true,
+        Kind::GetValues => true, // its mask is not sent
+        Kind::GetValuesSelective => tables::known_bits(Sort::Values, reply.values.mask),
+        Kind::GetValuesSetupSelective => tables::known_bits(
+            Sort::SetupValues,
+            reply.setup_values.mask,
+        ),
+        Kind::GetStats => tables::known_bits(Sort::Stats, reply.stats.mask),
+        Kind::ResetStats => true,
+        Kind::FwInfo => true,
+    }
+}
+
+// Whether bytes are a name that can be sent.
+fn is_name(held: &[u8]) -> bool
+    ensures { result ≡ is_name (length held.now) held.now }
+{
+    match names::sent_len(held) {
+        NameSent::Bytes(_) => true,
+        NameSent::Bad => false,
+    }
+}
+
+// Whether both are.
+fn are_names(first: &[u8], second: &[u8]) -> bool
+    ensures { result ≡ (is_name (length first.now) first.now && is_name (length second.now) second.now) }
+{
+    if is_name(first) {
+        return is_name(second);
+    }
+    false
+}
+
+// The names of FwVersion. The length of an array is known only of a field of the parameter itself, so the record comes by itself.
+fn version_names(version: RawFwVersion) -> bool
+    ensures { result ≡ (is_name name_room version.hw_name && is_name name_room version.fw_name) }
+{
+    let hw_name = version.hw_name;
+    let fw_name = version.fw_name;
+    are_names(&hw_name, &fw_name)
+}
+
+// The names of FwInfo.
+fn info_names(info: FwInfo) -> bool
+    ensures { result ≡ (is_name hash_room info.commit_hash && is_name hash_room info.user_commit_hash) }
+{
+    let commit_hash = info.commit_hash;
+    let user_commit_hash = info.user_commit_hash;
+    are_names(&commit_hash, &user_commit_hash)
+}
+
+// Whether the names of the kind that is written can be sent.
+fn good_names(reply: RawReply) -> bool
+    ensures { result ≡ good_names reply }
+{
+    let kind = reply.kind;
+    match kind {
+        Kind::FwVersion => version_names(reply.fw_version),
+        Kind::GetValues => true,
+        Kind::GetValuesSelective => true,
+        Kind::GetValuesSetupSelective => true,
+        Kind::GetStats => true,
+        Kind::ResetStats => true,
+        Kind::FwInfo => info_names(reply.fw_info),
+    }
+}
+
+// The bytes of a name that are sent, the NUL among them; none of one that is bad.
+fn name_len(held: &[u8]) -> usize
+    ensures { (result ≡ place_or 0 (sent_of (length held.now) held.now)) × (result ≤ length held.now) }
+{
+    match names::sent_len(held) {
+        NameSent::Bytes(len) => len,
+        NameSent::Bad => 0,
+    }
+}
+
+// A name at a position, without the zeros behind its NUL.
+fn pack_name(held: &[u8], buf: &mut [u8], pos: usize) -> Packed
+    ensures { PackIs (take (place_or 0 (sent_of (length held.now) held.now)) held.now) buf.old pos result buf.new }
+{
+    let len = name_len(held);
+    packer::pack_bytes(buf, pos, &held[0..len])
+}
+
+// The bytes of a masked reply: the id, the mask, and the fields that the mask has.
+fn masked_len(sort: Sort, mask: u32) -> usize
+    ensures { (result ≡ 5 + total (widths mask (table_of sort))) × (result ≤ payload_max) }
+{
+    5 + tables::span(sort, mask)
+}
+
+// The bytes of FwVersion: the id, 26 others, and its names.
+fn fw_version_len(version: RawFwVersion) -> usize
+    ensures { (result ≡ length (kind_number kind.FwVersion ∷ written fw_version_layout (version_raws version))) × (result ≤ payload_max) }
+{
+    let hw_name = version.hw_name;
+    let fw_name = version.fw_name;
+    27 + name_len(&hw_name) + name_len(&fw_name)
+}
+
+// The bytes of FwInfo: the id, three others, and its names.
+fn fw_info_len(info: FwInfo) -> usize
+    ensures { (result ≡ length (kind_number kind.FwInfo ∷ written fw_info_layout (info_raws info))) × (result ≤ payload_max) }
+{
+    let commit_hash = info.commit_hash;
+    let user_commit_hash = info.user_commit_hash;
+    4 + name_len(&commit_hash) + name_len(&user_commit_hash)
+}
+
+// The bytes of the payload. GetValues has every field, and no mask.
+fn payload_len(reply: RawReply) -> usize
+    ensures { (result ≡ length (payload_of reply)) × (result ≤ payload_max) }
+{
+    let kind = reply.kind;
+    match kind {
+        Kind::FwVersion => fw_version_len(reply.fw_version),
+        Kind::GetValues => 1 + tables::span(Sort::Values, format::ALL_VALUES),
+        Kind::GetValuesSelective => masked_len(Sort::Values, reply.values.mask),
+        Kind::GetValuesSetupSelective => masked_len(Sort::SetupValues, reply.setup_values.mask),
+        Kind::GetStats => masked_len(Sort::Stats, reply.stats.mask),
+        Kind::ResetStats => 1,
+        Kind::FwInfo => fw_info_len(reply.fw_info),
+    }
+}
+
+// Bytes one after the other from a position on.
+fn pack_each(part: &[u8], buf: &mut [u8], pos: usize) -> Packed
+    requires { pos + length part.now ≤ length buf.old }
+    ensures { PackIs (digits (replicate (length part.now) 1) part.now) buf.old pos result buf.new }
+{
+    let mut k: usize = 0;
+    while k < part.len() {
+        packer::pack_u8(buf, pos + k, part[k]);
+        k += 1;
+    }
+    Packed::Next(pos + k)
+}
+
+// A masked reply: the id, the mask, and the fields that the mask has, from the raw numbers of all.
+fn pack_masked(
+    id: u8,
+    sort: Sort,
+    mask: u32,
+    raw: [u32; format::TABLE_ROWS],
+    buf: &mut [u8],
+) -> Packed
+    requires { payload_at + length (digits (1 ∷ mask_widths mask (table_of sort)) (id ∷ mask ∷ raw)) ≤ length buf.old }
+    ensures { PackIs (digits (1 ∷ mask_widths mask (table_of sort)) (id ∷ mask ∷ raw)) buf.old payload_at result buf.new }
+{
+    packer::pack_u8(buf, PAYLOAD_AT, id);
+    packer::pack_u32(buf, PAYLOAD_AT + 1, mask);
+    tables::pack_fields(buf, PAYLOAD_AT + 5, sort, mask, raw)
+}
+
+// GetValues: the id, and every field.
+fn pack_get_values(values: RawValues, buf: &mut [u8]) -> Packed
+    requires { payload_at + length (digits (1 ∷ widths all_values values_table) (kind_number kind.GetValues ∷ numbers_of values_table (values_rows values))) ≤ length buf.old }
+    ensures { PackIs (digits (1 ∷ widths all_values values_table) (kind_number kind.GetValues ∷ numbers_of values_table (values_rows values))) buf.old payload_at result buf.new }
+{
+    packer::pack_u8(buf, PAYLOAD_AT, format::GET_VALUES);
+    tables::pack_fields(
+        buf,
+        PAYLOAD_AT + 1,
+        Sort::Values,
+        format::ALL_VALUES,
+        raw_telemetry::values_numbers(values),
+    )
+}
+
+// What follows hw_name in FwVersion.
+fn pack_fw_version_after(version: RawFwVersion, buf: &mut [u8], pos: usize) -> Packed
+    requires { pos + length (written fw_version_rest (version_raws version).1.1) ≤ length buf.old }
+    ensures { PackIs (written fw_version_rest (version_raws version).1.1) buf.old pos result buf.new }
+{
+    let uuid = version.uuid;
+    let single = [
+        version.pairing_done,
+        version.test_version_number,
+        version.hw_type,
+        version.custom_config_num,
+        version.has_phase_filters,
+        version.qml_hw,
+        version.qml_app,
+        version.nrf_flags,
+    ];
+    let fw_name = version.fw_name;
+    let end = pos + 20 + name_len(&fw_name);
+    pack_each(&uuid, buf, pos);
+    pack_each(&single, buf, pos + 12);
+    pack_name(&fw_name, buf, pos + 20);
+    packer::pack_u32(buf, end, version.hw_crc)
+}
+
+fn pack_fw_version(version: RawFwVersion, buf: &mut [u8]) -> Packed
+    requires { payload_at + length (kind_number kind.FwVersion ∷ written fw_version_layout (version_raws version)) ≤ length buf.old }
+    ensures { PackIs (kind_number kind.FwVersion ∷ written fw_version_layout (version_raws version)) buf.old payload_at result buf.new }
+{
+    let front = [format::FW_VERSION, version.major, version.minor];
+    let hw_name = version.hw_name;
+    let end = PAYLOAD_AT + 3 + name_len(&hw_name);
+    pack_each(&front, buf, PAYLOAD_AT);
+    pack_name(&hw_name, buf, PAYLOAD_AT + 3);
+    pack_fw_version_after(version, buf, end)
+}
+
+fn pack_fw_info(info: FwInfo, buf: &mut [u8]) -> Packed
+    requires { payload_at + length (kind_number kind.FwInfo ∷ written fw_info_layout (info_raws info)) ≤ length buf.old }
+    ensures { PackIs (kind_number kind.FwInfo ∷ written fw_info_layout (info_raws info)) buf.old payload_at result buf.new }
+{
+    let front = [
+        format::FW_INFO,
+        info.major,
+        info.minor,
+        info.test_version_number,
+    ];
+    let commit_hash = info.commit_hash;
+    let user_commit_hash = info.user_commit_hash;
+    let end = PAYLOAD_AT + 4 + name_len(&commit_hash);
+    pack_each(&front, buf, PAYLOAD_AT);
+    pack_name(&commit_hash, buf, PAYLOAD_AT + 4);
+    pack_name(&user_commit_hash, buf, end)
+}
+
+// The payload at its place in a buffer that has room for it.
+fn pack_payload(reply: RawReply, buf: &mut [u8]) -> Packed
+    requires { payload_at + length (payload_of reply) ≤ length buf.old }
+    ensures { PackIs (payload_of reply) buf.old payload_at result buf.new }
+{
+    let kind = reply.kind;
+    match kind {
+        Kind::FwVersion => pack_fw_version(reply.fw_version, buf),
+        Kind::GetValues => pack_get_values(reply.values, buf),
+        Kind::GetValuesSelective => pack_masked(
+            format::GET_VALUES_SELECTIVE,
+            Sort::Values,
+            reply.values.mask,
+            raw_telemetry::values_numbers(reply.values),
+            buf,
+        ),
+        Kind::GetValuesSetupSelective => pack_masked(
+            format::GET_VALUES_SETUP_SELECTIVE,
+            Sort::SetupValues,
+            reply.setup_values.mask,
+            raw_telemetry::setup_values_numbers(reply.setup_values),
+            buf,
+        ),
+        Kind::GetStats => pack_masked(
+            format::GET_STATS,
+            Sort::Stats,
+            reply.stats.mask,
+            raw_telemetry::stats_numbers(reply.stats),
+            buf,
+        ),
+        Kind::ResetStats => packer::pack_u8(buf, PAYLOAD_AT, format::RESET_STATS),
+        Kind::FwInfo => pack_fw_info(reply.fw_info, buf),
+    }
+}
+
+// The frame of a reply whose mask and names are good. With room for it `frame::wrap` refuses nothing: no payload of a reply is too long.
+fn write_good(reply: RawReply, buf: &mut [u8]) -> ReplyWritten
+    requires { (known_mask reply ≡ true) × (good_names reply ≡ true) }
+    ensures { WriteIs reply buf.old result buf.new }
+{
+    let len = payload_len(reply);
+    if buf.len() < len + FRAME_EXTRA {
+        return ReplyWritten::Refused(ReplyWriteError::BufferTooSmall); // refusal 5, tested last
+    }
+    pack_payload(reply, buf);
+    frame::wrap(len, buf);
+    ReplyWritten::Written(len + FRAME_EXTRA)
+}
+
+// Writes the frame of a raw reply at the front of `buf`. A refusal writes nothing.
+pub fn write_reply(reply: RawReply, buf: &mut [u8]) -> ReplyWritten
+    ensures { WriteIs reply buf.old result buf.new }
+{
+    if known_mask(reply) {
+        if good_names(reply) {
+            return write_good(reply, buf);
+        }
+        return ReplyWritten::Refused(ReplyWriteError::BadName); // refusal 7, tested before 5
+    }
+    ReplyWritten::Refused(ReplyWriteError::UnknownMaskBits) // refusal 8, tested first
+}
