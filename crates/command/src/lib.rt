@@ -6,7 +6,6 @@ ghost use Rattle.std.specs.Prelude.{◌≡◌};
 ghost use Rattle.packer.specs.Packing.{PackIs};
 ghost use Rattle.command.specs.Commands.{raw_of, bytes_of, size_of};
 
-use packer::Packed;
 use raw_command::RawCommand;
 
 mod masks;
@@ -100,7 +99,7 @@ pub fn command_len(command: Command) -> usize
 }
 
 // A plain command's bytes at a position, its id first: all of them, or none if they do not fit.
-pub fn pack_into(command: Command, buf: &mut [u8], pos: usize) -> Packed
+pub fn pack_into(command: Command, buf: &mut [u8], pos: usize) -> Result<usize, EncodeError>
     ensures { PackIs (bytes_of command) buf.old pos result buf.new }
 {
     raw_command::pack_parts(raw_command::parts_of(raw_of(command)), buf, pos)

@@ -12,9 +12,8 @@ ghost use Rattle.command_reader.specs.Reader.{hop_size, content_of, read_of, Say
 ghost use Rattle.command_reader.specs.Writer.{written_again, WriteIs};
 
 use format::{CommandId, FRAME_EXTRA, PAYLOAD_AT, PAYLOAD_MAX};
-use packer::Packed;
-use raw_command::{Parts, RawCommand, UnpackedCommand};
-use refusals::{Consumed, DecodeError, EncodeError, WriteBackError};
+use raw_command::{Parts, RawCommand};
+use refusals::{DecodeError, EncodeError, WriteBackError};
 
 const FORWARD_CAN: u8 = CommandId::ForwardCan as u8;
 
@@ -25,18 +24,12 @@ const BEHIND_PAYLOAD: usize = FRAME_EXTRA - PAYLOAD_AT;
 // are hops, two for each. On a refusal the command is FwVersion and there are no hops.
 #[derive(Clone, Copy)]
 pub struct CommandRead {
-    pub answer: Consumed,
+    pub answer: Result<usize, DecodeError>,
     pub command: RawCommand,
     pub hops: usize,
 }
 
 // What `write_command` returns: how many bytes the frame has, or the refusal.
-#[derive(Clone, Copy)]
-pub enum WrittenBack {
-    Written(usize),
-    Refused(WriteBackError),
-}
-
 // How many bytes of hops stand at the front: 34 and an id by turns.
 fn hops_len(bytes: &[u8]) -> usize
     ensures { (result ≡ hop_size bytes.now) × (result ≤ length bytes.now) }
@@ -56,7 +49,7 @@ fn not_read(error: DecodeError) -> CommandRead
     ensures { SaysRead (refused (decode_refusal error)) result }
 {
     CommandRead {
-        answer: Consumed::Refused(error),
+        answer: Err(error),
         command: RawCommand::FwVersion,
         hops: 0,
     }
@@ -68,12 +61,12 @@ fn read_payload(payload: &[u8], count: usize) -> CommandRead
 {
     let hops = hops_len(payload);
     match raw_command::unpack_command(&payload[hops..]) {
-        UnpackedCommand::Got(command) => CommandRead {
-            answer: Consumed::To(count),
+        Ok(command) => CommandRead {
+            answer: Ok(count),
             command,
             hops,
         },
-        UnpackedCommand::Refused(error) => not_read(error),
+        Err(error) => not_read(error),
     }
 }
 
@@ -83,18 +76,18 @@ pub fn read_command(buf: &[u8]) -> CommandRead
     ensures { ReadIs buf.now result }
 {
     match frame::open(buf) {
-        Consumed::To(count) => read_payload(&buf[PAYLOAD_AT..count - BEHIND_PAYLOAD], count),
-        Consumed::Refused(error) => not_read(error),
+        Ok(count) => read_payload(&buf[PAYLOAD_AT..count - BEHIND_PAYLOAD], count),
+        Err(error) => not_read(error),
     }
 }
 
 // Where the hop part begins: at the payload, or at the front if there is none to give.
-fn part_place(answer: Consumed) -> usize
+fn part_place(answer: Result<usize, DecodeError>) -> usize
     ensures { result ≡ part_place (consumed answer) }
 {
     match answer {
-        Consumed::To(_) => PAYLOAD_AT,
-        Consumed::Refused(_) => 0,
+        Ok(_) => PAYLOAD_AT,
+        Err(_) => 0,
     }
 }
 
@@ -112,7 +105,7 @@ pub fn hop_part(buf: &[u8]) -> &[u8]
 }
 
 // The payload at its place in a buffer that has room for it.
-fn pack_payload(hops: &[u8], parts: Parts, buf: &mut [u8]) -> Packed
+fn pack_payload(hops: &[u8], parts: Parts, buf: &mut [u8]) -> Result<usize, EncodeError>
     requires { payload_at + length hops.now + 1 + parts.width ≤ length buf.old }
     ensures { PackIs (hops.now ++ parts_bytes parts) buf.old payload_at result buf.new }
 {
@@ -122,34 +115,34 @@ fn pack_payload(hops: &[u8], parts: Parts, buf: &mut [u8]) -> Packed
 }
 
 // What `frame::wrap` answered, as `write_command` answers it.
-fn wrapped(answer: Packed) -> WrittenBack
+fn wrapped(answer: Result<usize, EncodeError>) -> Result<usize, WriteBackError>
     ensures { written_again result ≡ packed answer }
 {
     match answer {
-        Packed::Next(count) => WrittenBack::Written(count),
-        Packed::Refused(error) => match error {
-            EncodeError::BufferTooSmall => WrittenBack::Refused(WriteBackError::BufferTooSmall),
-            EncodeError::PayloadTooLong => WrittenBack::Refused(WriteBackError::PayloadTooLong),
+        Ok(count) => Ok(count),
+        Err(error) => match error {
+            EncodeError::BufferTooSmall => Err(WriteBackError::BufferTooSmall),
+            EncodeError::PayloadTooLong => Err(WriteBackError::PayloadTooLong),
         },
     }
 }
 
 // Writes the frame of a hop part and a command at the front of `buf`, as `read_command` reads it. A refusal writes
 // nothing. The hop part is judged whole, however long it is, before the length of the payload.
-pub fn write_command(hops: &[u8], command: RawCommand, buf: &mut [u8]) -> WrittenBack
+pub fn write_command(hops: &[u8], command: RawCommand, buf: &mut [u8]) -> Result<usize, WriteBackError>
     ensures { WriteIs hops.now command buf.old result buf.new }
 {
     if hops_len(hops) != hops.len() {
-        return WrittenBack::Refused(WriteBackError::InvalidFrame); // refusal 2, tested before 6
+        return Err(WriteBackError::InvalidFrame); // refusal 2, tested before 6
     }
     let parts = raw_command::parts_of(command);
     let plain_len = 1 + parts.width;
     if PAYLOAD_MAX - plain_len < hops.len() {
-        return WrittenBack::Refused(WriteBackError::PayloadTooLong); // refusal 6, tested before 5
+        return Err(WriteBackError::PayloadTooLong); // refusal 6, tested before 5
     }
     let len = hops.len() + plain_len;
     if buf.len() < len + FRAME_EXTRA {
-        return WrittenBack::Refused(WriteBackError::BufferTooSmall); // refusal 5
+        return Err(WriteBackError::BufferTooSmall); // refusal 5
     }
     pack_payload(hops, parts, buf);
     wrapped(frame::wrap(len, buf))

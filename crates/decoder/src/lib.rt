@@ -12,7 +12,7 @@ ghost use Rattle.buffer.specs.Buffer.{fresh, at_most, raised, moved, emptied, fi
 ghost use Rattle.decoder.specs.Judge.{decode_judge};
 ghost use Rattle.decoder.specs.State.{buffer_of, Sound, BufferIs, FeedIs, GatewayFeedIs, NextIs, held_of, figures_of, search_of};
 
-use refusals::{Consumed, DecodeError, FeedError};
+use refusals::{DecodeError, FeedError};
 use reply::CommandReply;
 
 // The unread bytes are buf[rpos..wpos]; the figures count since `new`. `drained`: the last `next` gave
@@ -37,16 +37,10 @@ pub struct Fed {
 }
 
 // How many bytes of a piece the gateway feed took, or why it took none.
-#[derive(Clone, Copy)]
-pub enum Taken {
-    Bytes(usize),
-    Refused(FeedError),
-}
-
 // The answer of `gateway_feed`.
 #[derive(Clone, Copy)]
 pub struct GatewayFed {
-    pub answer: Taken,
+    pub answer: Result<usize, FeedError>,
     pub decoder: Decoder,
 }
 
@@ -135,8 +129,8 @@ fn seek(unread: &[u8]) -> Sought
     while over < unread.len() {
         if unread[over] == format::FRAME_START_SHORT {
             match judge::judge(&unread[over..]) {
-                Consumed::To(count) => return Sought::Found(over, count),
-                Consumed::Refused(error) => match error {
+                Ok(count) => return Sought::Found(over, count),
+                Err(error) => match error {
                     DecodeError::IncompleteData => return Sought::Nothing(over),
                     _ => {}
                 },
@@ -256,20 +250,20 @@ impl Decoder {
         let decoder = self.settled();
         if piece.len() == 0 {
             return GatewayFed {
-                answer: Taken::Bytes(0),
+                answer: Ok(0),
                 decoder,
             };
         }
         if !decoder.drained {
             return GatewayFed {
-                answer: Taken::Refused(FeedError::NotDrained),
+                answer: Err(FeedError::NotDrained),
                 decoder,
             };
         }
         let fed = decoder.moved(piece.len()).copied(piece);
         let after = fed.decoder;
         GatewayFed {
-            answer: Taken::Bytes(fed.count),
+            answer: Ok(fed.count),
             decoder: after,
         }
     }

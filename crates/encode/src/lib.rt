@@ -9,7 +9,6 @@ ghost use Rattle.encode.specs.Writes.{PutIs, place_of};
 
 use command::Command;
 use format::{CommandId, FRAME_EXTRA, PAYLOAD_AT, PAYLOAD_MAX};
-use packer::Packed;
 use refusals::EncodeError;
 
 const FORWARD_CAN: u8 = CommandId::ForwardCan as u8;
@@ -18,30 +17,24 @@ const FORWARD_CAN: u8 = CommandId::ForwardCan as u8;
 const HOPS_MAX: usize = (PAYLOAD_MAX - 1) / 2;
 
 // What `encode` answers: how many bytes the frame took, or the refusal.
-#[derive(Clone, Copy)]
-pub enum Encoded {
-    Written(usize),
-    Refused(EncodeError),
-}
-
 // The place that a writer answered. `encode` sees that there is room before anything is written, so the
 // refusal does not come up here, and any number would do for it.
-fn place_after(answer: Packed) -> usize
+fn place_after(answer: Result<usize, EncodeError>) -> usize
     ensures { result ≡ place_of answer }
 {
     match answer {
-        Packed::Next(place) => place,
-        Packed::Refused(_) => 0,
+        Ok(place) => place,
+        Err(_) => 0,
     }
 }
 
 // What `wrap` answered, as `encode` answers it.
-fn answered(answer: Packed) -> Encoded
+fn answered(answer: Result<usize, EncodeError>) -> Result<usize, EncodeError>
     ensures { encoded result ≡ packed answer }
 {
     match answer {
-        Packed::Next(count) => Encoded::Written(count),
-        Packed::Refused(e) => Encoded::Refused(e),
+        Ok(count) => Ok(count),
+        Err(e) => Err(e),
     }
 }
 
@@ -90,20 +83,20 @@ fn pack_payload(command: Command, hops: &[u8], buf: &mut [u8], pos: usize) -> us
 // Writes the frame of a command at the front of `buf`. Each of `hops` is a controller that forwards what
 // follows it, the first of them the outermost ForwardCan of the Rust. Ports `encode`, which sets the payload
 // no limit and may leave part of a frame behind where it refuses; this one then writes nothing.
-pub fn encode(command: Command, hops: &[u8], buf: &mut [u8]) -> Encoded
+pub fn encode(command: Command, hops: &[u8], buf: &mut [u8]) -> Result<usize, EncodeError>
     ensures { EncodeIs command hops.now buf.old result buf.new }
 {
     // No theorem bounds the stack, so more hops are refused before any recursion: its depth is at most 128.
     if HOPS_MAX < hops.len() {
-        return Encoded::Refused(EncodeError::PayloadTooLong);
+        return Err(EncodeError::PayloadTooLong);
     }
     let len = payload_len(hops.len(), command::command_len(command));
     let frame_len = len + FRAME_EXTRA;
     if PAYLOAD_MAX < len {
-        return Encoded::Refused(EncodeError::PayloadTooLong); // refusal 6, tested before 5
+        return Err(EncodeError::PayloadTooLong); // refusal 6, tested before 5
     }
     if buf.len() < frame_len {
-        return Encoded::Refused(EncodeError::BufferTooSmall); // refusal 5
+        return Err(EncodeError::BufferTooSmall); // refusal 5
     }
     pack_payload(command, hops, buf, PAYLOAD_AT);
     answered(frame::wrap(len, buf))

@@ -1,12 +1,8 @@
 // The examples of README.md: the code that it shows stands here, and the gate runs it.
 #![tactic(auto)]
 
-use packer::UnpackedI32;
 use std::io;
-use vesc::{
-    Command, Consumed, Decoder, Encoded, Kind, RawCommand, StatsMask, Taken, ValuesMask,
-    ValuesSetupMask, WrittenBack,
-};
+use vesc::{Command, Decoder, Kind, RawCommand, StatsMask, ValuesMask, ValuesSetupMask};
 
 // A write that fails is said on standard error.
 fn checked(rt: &impl Eprint, written: io::Result<()>) {
@@ -29,8 +25,8 @@ fn say_field(rt: &(impl Print + Eprint), what: &str, value: f32) {
     let mut four = [0u8; 4];
     packer::pack_f32(&mut four, 0, value, 1.0);
     match packer::unpack_i32(&four, 0) {
-        UnpackedI32::Got(number, _) => say_signed(rt, what, number),
-        UnpackedI32::Refused(_) => {}
+        Ok((number, _)) => say_signed(rt, what, number),
+        Err(_) => {}
     }
 }
 
@@ -39,8 +35,8 @@ fn encoding(rt: &(impl Print + Eprint)) {
     let query = Command::GetValuesSelective(ValuesMask::RPM | ValuesMask::VOLTAGE_IN);
     let hops = [7u8];
     match vesc::encode(query, &hops, &mut buf) {
-        Encoded::Written(count) => say(rt, "bytes to send: ", count as u64),
-        Encoded::Refused(e) => say(rt, "refusal ", e.number() as u64),
+        Ok(count) => say(rt, "bytes to send: ", count as u64),
+        Err(e) => say(rt, "refusal ", e.number() as u64),
     }
 }
 
@@ -49,7 +45,7 @@ fn decoding(rt: &(impl Print + Eprint), received: &[u8]) {
     let answer = decoded.answer;
     let reply = decoded.reply;
     match answer {
-        Consumed::To(count) => {
+        Ok(count) => {
             say(rt, "bytes of the frame: ", count as u64);
             let kind = reply.kind;
             match kind {
@@ -63,7 +59,7 @@ fn decoding(rt: &(impl Print + Eprint), received: &[u8]) {
                 _ => say(rt, "another reply: ", kind.number() as u64),
             }
         }
-        Consumed::Refused(e) => say(rt, "refusal ", e.number() as u64),
+        Err(e) => say(rt, "refusal ", e.number() as u64),
     }
 }
 
@@ -107,8 +103,8 @@ fn writing_back(rt: &(impl Print + Eprint), hops: &[u8], command: RawCommand) {
     }
     let mut buf = [0u8; 260];
     match vesc::write_command(hops, command, &mut buf) {
-        WrittenBack::Written(count) => say(rt, "bytes written back: ", count as u64),
-        WrittenBack::Refused(e) => say(rt, "refusal ", e.number() as u64),
+        Ok(count) => say(rt, "bytes written back: ", count as u64),
+        Err(e) => say(rt, "refusal ", e.number() as u64),
     }
 }
 
@@ -118,7 +114,7 @@ fn reading(rt: &(impl Print + Eprint), sent: &[u8]) {
     let answer = read.answer;
     let command = read.command;
     match answer {
-        Consumed::To(count) => {
+        Ok(count) => {
             say(rt, "bytes of the command frame: ", count as u64);
             match command {
                 RawCommand::SetCurrent(current) => say_signed(rt, "milliamperes: ", current),
@@ -126,7 +122,7 @@ fn reading(rt: &(impl Print + Eprint), sent: &[u8]) {
             }
             writing_back(rt, vesc::hop_part(sent), command);
         }
-        Consumed::Refused(e) => say(rt, "refusal ", e.number() as u64),
+        Err(e) => say(rt, "refusal ", e.number() as u64),
     }
 }
 
@@ -150,13 +146,13 @@ fn asked(rt: &(impl Print + Eprint), start: Decoder) -> Decoder {
 }
 
 // How many bytes were taken, or 0 and a word on why none were.
-fn counted(rt: &(impl Print + Eprint), answer: Taken) -> usize {
+fn counted(rt: &(impl Print + Eprint), answer: Result<usize, FeedError>) -> usize {
     match answer {
-        Taken::Bytes(count) => {
+        Ok(count) => {
             say(rt, "bytes taken: ", count as u64);
             count
         }
-        Taken::Refused(e) => {
+        Err(e) => {
             say(rt, "refusal ", e.number() as u64);
             0
         }

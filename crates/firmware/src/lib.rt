@@ -13,7 +13,6 @@ ghost use Rattle.firmware.specs.RawVersion.{raw_version_by, raw_version_of, vers
 ghost use Rattle.firmware.specs.Firmware.{flag_of, version_by, fw_version_of, fw_info_of, no_fw_version, no_fw_info};
 
 use codes::{HwType, QmlHw};
-use refusals::Consumed;
 
 // Firmware version data.
 #[derive(Clone, Copy)]
@@ -71,12 +70,12 @@ fn flag_at(payload: &[u8], at: usize) -> bool
 }
 
 // The place after a name; after a refused one the end, so that nothing more is read.
-fn end_of(answer: Consumed, len: usize) -> usize
+fn end_of(answer: Result<usize, DecodeError>, len: usize) -> usize
     ensures { result ≡ place_or len (consumed answer) }
 {
     match answer {
-        Consumed::To(next) => next,
-        Consumed::Refused(_) => len,
+        Ok(next) => next,
+        Err(_) => len,
     }
 }
 

@@ -8,11 +8,10 @@ ghost use Rattle.refusals.specs.Refusals.{consumed};
 ghost use Rattle.frame.specs.Opening.{judge_sum_of, finish_of, open_of};
 ghost use Rattle.frame.specs.Wrapping.{WrapIs};
 
-use packer::{Packed, UnpackedU16};
-use refusals::{Consumed, DecodeError, EncodeError};
+use refusals::{DecodeError, EncodeError};
 
 // The sum is worked out last, and of a frame that ends well only.
-fn judge_sum(buf: &[u8], n: usize, expected: u16) -> Consumed
+fn judge_sum(buf: &[u8], n: usize, expected: u16) -> Result<usize, DecodeError>
     requires { n + 5 ≤ length buf.now }
     ensures { consumed result ≡ judge_sum_of buf.now n expected }
 {
@@ -20,57 +19,57 @@ fn judge_sum(buf: &[u8], n: usize, expected: u16) -> Consumed
     let count = n + format::FRAME_EXTRA;
     let actual = checksum::checksum(&buf[format::PAYLOAD_AT..end]);
     if expected == actual {
-        return Consumed::To(count);
+        return Ok(count);
     }
-    Consumed::Refused(DecodeError::ChecksumMismatch { expected, actual })
+    Err(DecodeError::ChecksumMismatch { expected, actual })
 }
 
 // What follows the `n` payload bytes of a frame: where the frame ends, or why it is none.
-pub fn finish(buf: &[u8], n: u8) -> Consumed
+pub fn finish(buf: &[u8], n: u8) -> Result<usize, DecodeError>
     ensures { consumed result ≡ finish_of buf.now n }
 {
     let len = n as usize;
     match packer::unpack_u16(buf, len + format::PAYLOAD_AT) {
-        UnpackedU16::Got(expected, last) => {
+        Ok((expected, last)) => {
             if buf.len() <= last {
-                return Consumed::Refused(DecodeError::IncompleteData);
+                return Err(DecodeError::IncompleteData);
             }
             if buf[last] != format::FRAME_END {
-                return Consumed::Refused(DecodeError::InvalidFrame);
+                return Err(DecodeError::InvalidFrame);
             }
             judge_sum(buf, len, expected)
         }
-        UnpackedU16::Refused(e) => Consumed::Refused(e),
+        Err(e) => Err(e),
     }
 }
 
 // The frame at the front of `buf`, whatever its payload holds: where it ends, or why there is none. Byte 1 is the
 // length of the payload, which begins at byte 2.
-pub fn open(buf: &[u8]) -> Consumed
+pub fn open(buf: &[u8]) -> Result<usize, DecodeError>
     ensures { consumed result ≡ open_of buf.now }
 {
     if buf.len() <= 0 {
-        return Consumed::Refused(DecodeError::IncompleteData);
+        return Err(DecodeError::IncompleteData);
     }
     if buf[0] != format::FRAME_START_SHORT {
-        return Consumed::Refused(DecodeError::InvalidFrame);
+        return Err(DecodeError::InvalidFrame);
     }
     if buf.len() <= 1 {
-        return Consumed::Refused(DecodeError::IncompleteData);
+        return Err(DecodeError::IncompleteData);
     }
     finish(buf, buf[1])
 }
 
 // Writes a frame around the `len` payload bytes that stand at byte 2 of `buf`, and returns the frame's size.
 // Tests 6 (PayloadTooLong), then 5 (BufferTooSmall); a refusal writes nothing.
-pub fn wrap(len: usize, buf: &mut [u8]) -> Packed
+pub fn wrap(len: usize, buf: &mut [u8]) -> Result<usize, EncodeError>
     ensures { WrapIs len buf.old result buf.new }
 {
     if format::PAYLOAD_MAX < len {
-        return Packed::Refused(EncodeError::PayloadTooLong); // refusal 6, tested before 5
+        return Err(EncodeError::PayloadTooLong); // refusal 6, tested before 5
     }
     if buf.len() < len + format::FRAME_EXTRA {
-        return Packed::Refused(EncodeError::BufferTooSmall); // refusal 5
+        return Err(EncodeError::BufferTooSmall); // refusal 5
     }
     let end = format::PAYLOAD_AT + len;
     let sum = checksum::checksum(&buf[format::PAYLOAD_AT..end]);

@@ -7,34 +7,34 @@ ghost use Rattle.std.specs.Prelude.{◌≡◌};
 ghost use Rattle.refusals.specs.Refusals.{consumed};
 ghost use Rattle.judge.specs.Judge.{judge_of};
 
-use refusals::{Consumed, DecodeError};
+use refusals::DecodeError;
 
 // What the bytes from the first on are: a good frame, up to the place that is answered, or the refusal of
 // `decode`. A byte that starts no frame costs one comparison: it is judged before anything is called.
-pub fn judge(buf: &[u8]) -> Consumed
+pub fn judge(buf: &[u8]) -> Result<usize, DecodeError>
     ensures { consumed result ≡ judge_of buf.now }
 {
     if buf.len() <= 0 {
-        return Consumed::Refused(DecodeError::IncompleteData);
+        return Err(DecodeError::IncompleteData);
     }
     if buf[0] != format::FRAME_START_SHORT {
-        return Consumed::Refused(DecodeError::InvalidFrame);
+        return Err(DecodeError::InvalidFrame);
     }
     if buf.len() <= 1 {
-        return Consumed::Refused(DecodeError::IncompleteData);
+        return Err(DecodeError::IncompleteData);
     }
     let payload_len = buf[1];
     if buf.len() <= format::PAYLOAD_AT {
-        return Consumed::Refused(DecodeError::IncompleteData);
+        return Err(DecodeError::IncompleteData);
     }
     let id = buf[format::PAYLOAD_AT];
     match layout::fields_end(&buf[format::PAYLOAD_AT..], id, 1) {
-        Consumed::To(read) => {
+        Ok(read) => {
             if payload_len as usize != read {
-                return Consumed::Refused(DecodeError::InvalidFrame);
+                return Err(DecodeError::InvalidFrame);
             }
             frame::finish(buf, payload_len)
         }
-        Consumed::Refused(e) => Consumed::Refused(e),
+        Err(e) => Err(e),
     }
 }

@@ -10,44 +10,43 @@ ghost use Rattle.tables.specs.Sorts.{table_of};
 ghost use Rattle.layout.specs.Layout.{name, masked, extent_of, extent};
 ghost use Rattle.layout.specs.Replies.{get_values, fw_version_layout, fw_info_layout, fields_end};
 
-use packer::UnpackedU32;
-use refusals::{Consumed, DecodeError};
+use refusals::DecodeError;
 use tables::Sort;
 
 // The place `width` bytes on, where they are there. A refusal so far stays, as after the Rust's `?`.
-fn skip(part: &[u8], so_far: Consumed, width: usize) -> Consumed
+fn skip(part: &[u8], so_far: Result<usize, DecodeError>, width: usize) -> Result<usize, DecodeError>
     ensures { consumed result ≡ and_then (consumed so_far) (consume_at width part.now) }
 {
     match so_far {
-        Consumed::To(at) => {
+        Ok(at) => {
             let len = part.len();
             if len < width {
-                return Consumed::Refused(DecodeError::IncompleteData);
+                return Err(DecodeError::IncompleteData);
             }
             if len - width < at {
-                return Consumed::Refused(DecodeError::IncompleteData);
+                return Err(DecodeError::IncompleteData);
             }
-            Consumed::To(at + width)
+            Ok(at + width)
         }
-        Consumed::Refused(e) => Consumed::Refused(e),
+        Err(e) => Err(e),
     }
 }
 
 // The place after a name, likewise.
-fn skip_name(part: &[u8], so_far: Consumed, room: usize) -> Consumed
+fn skip_name(part: &[u8], so_far: Result<usize, DecodeError>, room: usize) -> Result<usize, DecodeError>
     ensures { consumed result ≡ and_then (consumed so_far) (extent_of (name room) part.now) }
 {
     match so_far {
-        Consumed::To(at) => names::find_nul(part, at, room),
-        Consumed::Refused(e) => Consumed::Refused(e),
+        Ok(at) => names::find_nul(part, at, room),
+        Err(e) => Err(e),
     }
 }
 
 // Each place is named for the last of the fields before it.
-fn fw_version_end(part: &[u8], at: usize) -> Consumed
+fn fw_version_end(part: &[u8], at: usize) -> Result<usize, DecodeError>
     ensures { consumed result ≡ extent fw_version_layout part.now at }
 {
-    let minor = skip(part, Consumed::To(at), 2);
+    let minor = skip(part, Ok(at), 2);
     let hw_name = skip_name(part, minor, format::FW_VERSION_NAME_MAX_LEN);
     let uuid = skip(part, hw_name, 12);
     let nrf_flags = skip(part, uuid, 8);
@@ -55,10 +54,10 @@ fn fw_version_end(part: &[u8], at: usize) -> Consumed
     skip(part, fw_name, 4)
 }
 
-fn fw_info_end(part: &[u8], at: usize) -> Consumed
+fn fw_info_end(part: &[u8], at: usize) -> Result<usize, DecodeError>
     ensures { consumed result ≡ extent fw_info_layout part.now at }
 {
-    let test_version_number = skip(part, Consumed::To(at), 3);
+    let test_version_number = skip(part, Ok(at), 3);
     let commit_hash = skip_name(
         part,
         test_version_number,
@@ -67,28 +66,28 @@ fn fw_info_end(part: &[u8], at: usize) -> Consumed
     skip_name(part, commit_hash, format::FW_INFO_COMMIT_HASH_MAX_LEN)
 }
 
-fn get_values_end(part: &[u8], at: usize) -> Consumed
+fn get_values_end(part: &[u8], at: usize) -> Result<usize, DecodeError>
     ensures { consumed result ≡ extent get_values part.now at }
 {
     skip(
         part,
-        Consumed::To(at),
+        Ok(at),
         tables::span(Sort::Values, format::ALL_VALUES),
     )
 }
 
 // The place after a mask and the fields that it has.
-fn masked_end(part: &[u8], at: usize, sort: Sort) -> Consumed
+fn masked_end(part: &[u8], at: usize, sort: Sort) -> Result<usize, DecodeError>
     ensures { consumed result ≡ extent (masked (table_of sort) ∷ []) part.now at }
 {
     match packer::unpack_u32(part, at) {
-        UnpackedU32::Got(mask, next) => skip(part, Consumed::To(next), tables::span(sort, mask)),
-        UnpackedU32::Refused(e) => Consumed::Refused(e),
+        Ok((mask, next)) => skip(part, Ok(next), tables::span(sort, mask)),
+        Err(e) => Err(e),
     }
 }
 
 // The place after the fields that follow an id, which start at `at`.
-pub fn fields_end(part: &[u8], id: u8, at: usize) -> Consumed
+pub fn fields_end(part: &[u8], id: u8, at: usize) -> Result<usize, DecodeError>
     ensures { consumed result ≡ fields_end id part.now at }
 {
     match id {
@@ -97,8 +96,8 @@ pub fn fields_end(part: &[u8], id: u8, at: usize) -> Consumed
         format::GET_VALUES_SELECTIVE => masked_end(part, at, Sort::Values),
         format::GET_VALUES_SETUP_SELECTIVE => masked_end(part, at, Sort::SetupValues),
         format::GET_STATS => masked_end(part, at, Sort::Stats),
-        format::RESET_STATS => Consumed::To(at),
+        format::RESET_STATS => Ok(at),
         format::FW_INFO => fw_info_end(part, at),
-        _ => Consumed::Refused(DecodeError::UnknownPacket { id }),
+        _ => Err(DecodeError::UnknownPacket { id }),
     }
 }

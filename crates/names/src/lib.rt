@@ -8,61 +8,55 @@ ghost use Rattle.format.specs.Format.{name_room, hash_room};
 ghost use Rattle.names.specs.Names.{nul_within, name_at, named, named39, named47, all_zero, sent_of, name_sent};
 ghost use Rattle.refusals.specs.Refusals.{consumed};
 
-use refusals::{Consumed, DecodeError};
+use refusals::DecodeError;
 
 // A name of FwVersion, its bytes all zeros where it is refused.
 #[derive(Clone, Copy)]
 pub struct Name39 {
-    pub answer: Consumed,
+    pub answer: Result<usize, DecodeError>,
     pub bytes: [u8; format::FW_VERSION_NAME_MAX_LEN],
 }
 
 // A name of FwInfo, its bytes all zeros where it is refused.
 #[derive(Clone, Copy)]
 pub struct Name47 {
-    pub answer: Consumed,
+    pub answer: Result<usize, DecodeError>,
     pub bytes: [u8; format::FW_INFO_COMMIT_HASH_MAX_LEN],
 }
 
 // How many bytes of a name are sent, the NUL among them. `Bad` is refusal 7, BadName.
-#[derive(Clone, Copy)]
-pub enum NameSent {
-    Bytes(usize),
-    Bad,
-}
-
 // The place after the first NUL among the `room` bytes from `pos` on.
-pub fn find_nul(buf: &[u8], pos: usize, room: usize) -> Consumed
+pub fn find_nul(buf: &[u8], pos: usize, room: usize) -> Result<usize, DecodeError>
     ensures { consumed result ≡ nul_within room (drop pos buf.now) pos }
 {
     let mut at = pos;
     let mut left = room;
     while 0 < left {
         if buf.len() <= at {
-            return Consumed::Refused(DecodeError::IncompleteData);
+            return Err(DecodeError::IncompleteData);
         }
         if buf[at] == 0 {
-            return Consumed::To(at + 1);
+            return Ok(at + 1);
         }
         at += 1;
         left -= 1;
     }
-    Consumed::Refused(DecodeError::InvalidFrame)
+    Err(DecodeError::InvalidFrame)
 }
 
 // The Rust's loop for every size: the name at `pos` goes to the front of the caller's zeros, of
 // which there are as many as the name has room. They stay zeros where the name is refused.
-fn unpack_c_string(buf: &[u8], pos: usize, room: usize, zeros: &mut [u8]) -> Consumed
+fn unpack_c_string(buf: &[u8], pos: usize, room: usize, zeros: &mut [u8]) -> Result<usize, DecodeError>
     requires { zeros.old ≡ replicate room 0 }
     ensures { named result zeros.new ≡ name_at room buf.now pos }
 {
     let answer = find_nul(buf, pos, room);
     match answer {
-        Consumed::To(next) => {
+        Ok(next) => {
             zeros[..next - pos].copy_from_slice(&buf[pos..next]);
             answer
         }
-        Consumed::Refused(_) => answer,
+        Err(_) => answer,
     }
 }
 
@@ -100,16 +94,16 @@ fn zeros_from(held: &[u8], at: usize) -> bool
 
 // How much of a name is sent, document 02, W4; the Rust only reads names. `held` is the whole room
 // of the name. It is bad without a NUL, or with a byte other than zero after the first one.
-pub fn sent_len(held: &[u8]) -> NameSent
+pub fn sent_len(held: &[u8]) -> Option<usize>
     ensures { name_sent result ≡ sent_of (length held.now) held.now }
 {
     match find_nul(held, 0, held.len()) {
-        Consumed::To(next) => {
+        Ok(next) => {
             if zeros_from(held, next) {
-                return NameSent::Bytes(next);
+                return Some(next);
             }
-            NameSent::Bad
+            None
         }
-        Consumed::Refused(_) => NameSent::Bad,
+        Err(_) => None,
     }
 }

@@ -11,9 +11,7 @@ use lib.Seq.{take_all}
 use borrow.Author.Tests.{le-leb, lt-leb, leb-true}
 use Rattle.refusals.specs.Refusals.{Answer, Refusal, ok, refused, incomplete_data}
 use Rattle.refusals.proofs.Different.{none}
-use Rattle.packer.specs.Unpacking.{read_at, UuidIs, consume_at, uuid_at}
-use Rattle.refusals.specs.declared.Consumed.TheVariants.{To, Refused}
-use Rattle.refusals.specs.declared.DecodeError.TheVariants.{IncompleteData}
+use Rattle.packer.specs.Unpacking.{read_at, consume_at}
 
 pub got : {A : Type 0} (width : ℕ) (value : A) (s : List ℕ) (at : ℕ) → at + width ≤ length s → read_at width value s at ≡ ok (value, at + width)
 unfolding read_at
@@ -64,18 +62,9 @@ pub bytes-lacking : (width : ℕ) (s : List ℕ) (at : ℕ) → length s < at + 
 unfolding consume_at
 bytes-lacking width s at h = rw (lt-leb (at + width) (length s) h)
 
-module _ (s : List ℕ) (at : ℕ) where
-  pub uuid-lacking : length s < at + 12 → UuidIs s at (record { answer = Refused IncompleteData; bytes = replicate 12 0 })
-  unfolding uuid_at
-  uuid-lacking h = record { answer = sym (bytes-lacking 12 s at h); bytes = rw (lt-leb (at + 12) (length s) h) }
-
-  pub uuid-got : (bytes : List ℕ) → at + 12 ≤ length s → bytes ≡ take 12 (drop at s) → UuidIs s at (record { answer = To (at + 12); bytes = bytes })
-  unfolding uuid_at
-  uuid-got bytes h e = record { answer = sym (bytes-got 12 s at h); bytes = rw (le-leb (at + 12) (length s) h) e }
-
-  -- what a copy of them over twelve zeros leaves
-  pub copied : take (at + 12 - at) (drop at s) ≡ take 12 (drop at s)
-  copied = let e : at + 12 - at ≡ 12 = omega arith in rw e
+-- what a copy of twelve of them over twelve zeros leaves
+pub copied-twelve : (s : List ℕ) (at : ℕ) → take (at + 12 - at) (drop at s) ≡ take 12 (drop at s)
+copied-twelve s at = let e : at + 12 - at ≡ 12 = omega arith in rw e
 
 -- the part from a place to the end, as it is lent
 pub lent-whole : (n : ℕ) (s : List ℕ) → take (length s - n) (drop n s) ≡ drop n s

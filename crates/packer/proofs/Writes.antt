@@ -11,8 +11,8 @@ use borrow.Author.Tests.{le-leb, lt-leb}
 use Rattle.refusals.specs.Refusals.{ok, refused, buffer_too_small}
 use Rattle.packer.specs.Numbers.{big_endian}
 use Rattle.packer.specs.Packing.{written, pack_answer, pack_after, PackIs}
-use Rattle.packer.specs.declared.Packed.{Packed}
-use Rattle.packer.specs.declared.Packed.TheVariants.{Next, Refused}
+use Rattle.std.specs.Prelude.{Result, Ok, Err}
+use Rattle.refusals.specs.declared.EncodeError.{EncodeError}
 use Rattle.refusals.specs.declared.EncodeError.TheVariants.{BufferTooSmall}
 
 pub digits-length : (width n : ℕ) → length (big_endian width n) ≡ width
@@ -70,12 +70,12 @@ full-after : (bytes l : List ℕ) (at : ℕ) → length l < at + length bytes �
 unfolding pack_after
 full-after bytes l at h = rw (lt-leb (at + length bytes) (length l) h)
 
-pub full-packed : (bytes l : List ℕ) (at : ℕ) → length l < at + length bytes → PackIs bytes l at (Refused BufferTooSmall) l
+pub full-packed : (bytes l : List ℕ) (at : ℕ) → length l < at + length bytes → PackIs bytes l at (Err BufferTooSmall) l
 full-packed bytes l at h = record { answer = sym (full-answer bytes l at h); holds = sym (full-after bytes l at h) }
 
 -- ---- bytes copied to their place, which ends at `end`
 pub copied-packed : (bytes l part : List ℕ) (at end : ℕ) → end ≡ at + length bytes → end ≤ length l → part ≡ bytes
-    → PackIs bytes l at (Next end) (take at l ++ (part ++ drop (end - at) (drop at l)))
+    → PackIs bytes l at (Ok end) (take at l ++ (part ++ drop (end - at) (drop at l)))
 unfolding written
 copied-packed bytes l part at end ends inside all =
     let size : end - at ≡ length bytes = omega arith in
@@ -86,7 +86,7 @@ copied-packed bytes l part at end ends inside all =
 
 -- ---- the digits of a number
 pub digits-packed : (width n : ℕ) (l : List ℕ) (at : ℕ) (after : List ℕ) → at + width ≤ length l → after ≡ written l at (big_endian width n)
-    → PackIs (big_endian width n) l at (Next (at + width)) after
+    → PackIs (big_endian width n) l at (Ok (at + width)) after
 digits-packed width n l at after h e =
     let d : length (big_endian width n) ≡ width = digits-length width n in
     record {
@@ -94,7 +94,7 @@ digits-packed width n l at after h e =
       holds = e ∙ sym (fits_after (big_endian width n) l at (omega arith));
     }
 
-pub no-digits-packed : (width n : ℕ) (l : List ℕ) (at : ℕ) → length l < at + width → PackIs (big_endian width n) l at (Refused BufferTooSmall) l
+pub no-digits-packed : (width n : ℕ) (l : List ℕ) (at : ℕ) → length l < at + width → PackIs (big_endian width n) l at (Err BufferTooSmall) l
 no-digits-packed width n l at h = full-packed (big_endian width n) l at (omega (arith, digits-length width n))
 
 -- ---- two writes, one after the other, are one write of the joined bytes: the answer, and what the slice holds where both fit
@@ -121,7 +121,7 @@ module _ (p q l : List ℕ) (at : ℕ) (h : at + length p ≤ length l) where
       ∙ sym (as-sets (p ++ q) l at k)
 
 -- the same of what two writers answered
-pub two-packs : {p q l m after : List ℕ} {at : ℕ} {r s : Packed} → at + length (p ++ q) ≤ length l → PackIs p l at r m → PackIs q m (at + length p) s after
+pub two-packs : {p q l m after : List ℕ} {at : ℕ} {r s : Result ℕ EncodeError} → at + length (p ++ q) ≤ length l → PackIs p l at r m → PackIs q m (at + length p) s after
     → PackIs (p ++ q) l at s after
 two-packs {p} {q} {l} {m} {after} {at} room w v =
     let first : at + length p ≤ length l = omega (arith, length-append p q) in
@@ -131,6 +131,6 @@ two-packs {p} {q} {l} {m} {after} {at} room w v =
     }
 
 -- no byte
-pub none-packed : (l : List ℕ) (at : ℕ) → at ≤ length l → PackIs [] l at (Next at) l
+pub none-packed : (l : List ℕ) (at : ℕ) → at ≤ length l → PackIs [] l at (Ok at) l
 none-packed l at room =
     record { answer = rw (fits-answer [] l at (omega arith)) (ap ok (omega arith)); holds = sym (fits_after [] l at (omega arith) ∙ sym (stored [] l at (omega arith))) }

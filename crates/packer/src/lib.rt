@@ -6,54 +6,11 @@ ghost use Rattle.std.specs.Prelude.{◌≡◌, ◌+◌, ◌*◌, ◌%◌, ◌≤
 ghost use Rattle.std.specs.Int.Signed.{mag};
 ghost use Rattle.floats.specs.Numbers.{times_scale};
 ghost use Rattle.packer.specs.Numbers.{be_at, big_endian, signed_of, unsigned_of};
-ghost use Rattle.packer.specs.Unpacking.{unsigned_at, signed_at, unpacked_u8, unpacked_u16, unpacked_u32, unpacked_i16, unpacked_i32, unpacked_f32, scaled_at, float_at, NumberBelow, UuidIs};
+ghost use Rattle.refusals.specs.Refusals.{consumed};
+ghost use Rattle.packer.specs.Unpacking.{unsigned_at, signed_at, scaled_at, float_at, uuid_at, NumberBelow};
 ghost use Rattle.packer.specs.Packing.{written, PackIs};
 
-use refusals::{Consumed, DecodeError, EncodeError};
-
-// What a reader answers: the value and the position after it, or the refusal.
-#[derive(Clone, Copy)]
-pub enum UnpackedU8 {
-    Got(u8, usize),
-    Refused(DecodeError),
-}
-
-#[derive(Clone, Copy)]
-pub enum UnpackedU16 {
-    Got(u16, usize),
-    Refused(DecodeError),
-}
-
-#[derive(Clone, Copy)]
-pub enum UnpackedU32 {
-    Got(u32, usize),
-    Refused(DecodeError),
-}
-
-#[derive(Clone, Copy)]
-pub enum UnpackedI16 {
-    Got(i16, usize),
-    Refused(DecodeError),
-}
-
-#[derive(Clone, Copy)]
-pub enum UnpackedI32 {
-    Got(i32, usize),
-    Refused(DecodeError),
-}
-
-#[derive(Clone, Copy)]
-pub enum UnpackedF32 {
-    Got(f32, usize),
-    Refused(DecodeError),
-}
-
-// The bytes stand beside the answer; they are zeros on a refusal.
-#[derive(Clone, Copy)]
-pub struct UnpackedUuid {
-    pub answer: Consumed,
-    pub bytes: [u8; 12],
-}
+use refusals::{DecodeError, EncodeError};
 
 // A cast at an index would ask that the byte fits; here it is the function's own.
 fn wide(byte: u8) -> u32
@@ -78,18 +35,18 @@ fn be(buf: &[u8], pos: usize, width: usize) -> u32
 
 // The number of the `width` bytes at `pos`, where they are there. `pos + width` might not fit, so
 // the width is taken off the length.
-fn unpack_be(buf: &[u8], pos: usize, width: usize) -> UnpackedU32
+fn unpack_be(buf: &[u8], pos: usize, width: usize) -> Result<(u32, usize), DecodeError>
     requires { width ≤ 4 }
-    ensures { (unpacked_u32 result ≡ unsigned_at width buf.now pos) × NumberBelow (256 ^ width) result }
+    ensures { (consumed result ≡ unsigned_at width buf.now pos) × NumberBelow (256 ^ width) result }
 {
     let len = buf.len();
     if len < width {
-        return UnpackedU32::Refused(DecodeError::IncompleteData);
+        return Err(DecodeError::IncompleteData);
     }
     if len - width < pos {
-        return UnpackedU32::Refused(DecodeError::IncompleteData);
+        return Err(DecodeError::IncompleteData);
     }
-    UnpackedU32::Got(be(buf, pos, width), pos + width)
+    Ok((be(buf, pos, width), pos + width))
 }
 
 // The two's complement reading of a number below 2 * `half`: `half` is the weight of its sign.
@@ -118,108 +75,78 @@ pub fn as_i16(number: u32) -> i32
     signed(32768, number % 65536)
 }
 
-pub fn unpack_u32(buf: &[u8], pos: usize) -> UnpackedU32
-    ensures { unpacked_u32 result ≡ unsigned_at 4 buf.now pos }
+pub fn unpack_u32(buf: &[u8], pos: usize) -> Result<(u32, usize), DecodeError>
+    ensures { consumed result ≡ unsigned_at 4 buf.now pos }
 {
     unpack_be(buf, pos, 4)
 }
 
-pub fn unpack_i32(buf: &[u8], pos: usize) -> UnpackedI32
-    ensures { unpacked_i32 result ≡ signed_at 4 buf.now pos }
+pub fn unpack_i32(buf: &[u8], pos: usize) -> Result<(i32, usize), DecodeError>
+    ensures { consumed result ≡ signed_at 4 buf.now pos }
 {
-    match unpack_be(buf, pos, 4) {
-        UnpackedU32::Got(number, next) => UnpackedI32::Got(as_i32(number), next),
-        UnpackedU32::Refused(e) => UnpackedI32::Refused(e),
-    }
+    let (number, next) = unpack_be(buf, pos, 4)?;
+    Ok((as_i32(number), next))
 }
 
-pub fn unpack_u16(buf: &[u8], pos: usize) -> UnpackedU16
-    ensures { unpacked_u16 result ≡ unsigned_at 2 buf.now pos }
+pub fn unpack_u16(buf: &[u8], pos: usize) -> Result<(u16, usize), DecodeError>
+    ensures { consumed result ≡ unsigned_at 2 buf.now pos }
 {
-    match unpack_be(buf, pos, 2) {
-        UnpackedU32::Got(number, next) => UnpackedU16::Got(number as u16, next),
-        UnpackedU32::Refused(e) => UnpackedU16::Refused(e),
-    }
+    let (number, next) = unpack_be(buf, pos, 2)?;
+    Ok((number as u16, next))
 }
 
-pub fn unpack_i16(buf: &[u8], pos: usize) -> UnpackedI16
-    ensures { unpacked_i16 result ≡ signed_at 2 buf.now pos }
+pub fn unpack_i16(buf: &[u8], pos: usize) -> Result<(i16, usize), DecodeError>
+    ensures { consumed result ≡ signed_at 2 buf.now pos }
 {
-    match unpack_be(buf, pos, 2) {
-        UnpackedU32::Got(number, next) => UnpackedI16::Got(signed(32768, number) as i16, next),
-        UnpackedU32::Refused(e) => UnpackedI16::Refused(e),
-    }
+    let (number, next) = unpack_be(buf, pos, 2)?;
+    Ok((signed(32768, number) as i16, next))
 }
 
-pub fn unpack_u8(buf: &[u8], pos: usize) -> UnpackedU8
-    ensures { unpacked_u8 result ≡ unsigned_at 1 buf.now pos }
+pub fn unpack_u8(buf: &[u8], pos: usize) -> Result<(u8, usize), DecodeError>
+    ensures { consumed result ≡ unsigned_at 1 buf.now pos }
 {
-    match unpack_be(buf, pos, 1) {
-        UnpackedU32::Got(number, next) => UnpackedU8::Got(number as u8, next),
-        UnpackedU32::Refused(e) => UnpackedU8::Refused(e),
-    }
+    let (number, next) = unpack_be(buf, pos, 1)?;
+    Ok((number as u8, next))
 }
 
 // A signed 32-bit number over a scale: w_s of document 01, "Reply fields".
-pub fn unpack_f32(buf: &[u8], pos: usize, scale: f32) -> UnpackedF32
-    ensures { unpacked_f32 result ≡ scaled_at 4 scale buf.now pos }
+pub fn unpack_f32(buf: &[u8], pos: usize, scale: f32) -> Result<(f32, usize), DecodeError>
+    ensures { consumed result ≡ scaled_at 4 scale buf.now pos }
 {
-    match unpack_i32(buf, pos) {
-        UnpackedI32::Got(raw, next) => UnpackedF32::Got(floats::scaled(raw, scale), next),
-        UnpackedI32::Refused(e) => UnpackedF32::Refused(e),
-    }
+    let (raw, next) = unpack_i32(buf, pos)?;
+    Ok((floats::scaled(raw, scale), next))
 }
 
 // A signed 16-bit number over a scale: h_s.
-pub fn unpack_f16(buf: &[u8], pos: usize, scale: f32) -> UnpackedF32
-    ensures { unpacked_f32 result ≡ scaled_at 2 scale buf.now pos }
+pub fn unpack_f16(buf: &[u8], pos: usize, scale: f32) -> Result<(f32, usize), DecodeError>
+    ensures { consumed result ≡ scaled_at 2 scale buf.now pos }
 {
-    match unpack_i16(buf, pos) {
-        UnpackedI16::Got(raw, next) => UnpackedF32::Got(floats::scaled(raw as i32, scale), next),
-        UnpackedI16::Refused(e) => UnpackedF32::Refused(e),
-    }
+    let (raw, next) = unpack_i16(buf, pos)?;
+    Ok((floats::scaled(raw as i32, scale), next))
 }
 
 // A binary32 by its bits: F.
-pub fn unpack_f32_auto(buf: &[u8], pos: usize) -> UnpackedF32
-    ensures { unpacked_f32 result ≡ float_at buf.now pos }
+pub fn unpack_f32_auto(buf: &[u8], pos: usize) -> Result<(f32, usize), DecodeError>
+    ensures { consumed result ≡ float_at buf.now pos }
 {
-    match unpack_u32(buf, pos) {
-        UnpackedU32::Got(bits, next) => UnpackedF32::Got(floats::f32_from_bits(bits), next),
-        UnpackedU32::Refused(e) => UnpackedF32::Refused(e),
-    }
+    let (bits, next) = unpack_u32(buf, pos)?;
+    Ok((floats::f32_from_bits(bits), next))
 }
 
-pub fn unpack_uuid(buf: &[u8], pos: usize) -> UnpackedUuid
-    ensures { UuidIs buf.now pos result }
+pub fn unpack_uuid(buf: &[u8], pos: usize) -> Result<([u8; 12], usize), DecodeError>
+    ensures { consumed result ≡ uuid_at buf.now pos }
 {
     let len = buf.len();
     if len < 12 {
-        return UnpackedUuid {
-            answer: Consumed::Refused(DecodeError::IncompleteData),
-            bytes: [0u8; 12],
-        };
+        return Err(DecodeError::IncompleteData);
     }
     if len - 12 < pos {
-        return UnpackedUuid {
-            answer: Consumed::Refused(DecodeError::IncompleteData),
-            bytes: [0u8; 12],
-        };
+        return Err(DecodeError::IncompleteData);
     }
     let mut bytes = [0u8; 12];
     let next = pos + 12;
     bytes.copy_from_slice(&buf[pos..next]);
-    UnpackedUuid {
-        answer: Consumed::To(next),
-        bytes,
-    }
-}
-
-// What a writer answers: the position after what it wrote, or the refusal.
-#[derive(Clone, Copy)]
-pub enum Packed {
-    Next(usize),
-    Refused(EncodeError),
+    Ok((bytes, next))
 }
 
 // Writes the last `width` bytes of the number at `pos`, the lowest first, since each is what a
@@ -238,18 +165,18 @@ fn put_be(buf: &mut [u8], pos: usize, width: usize, number: u32)
 }
 
 // The same where there is room, and nothing where there is none.
-pub fn pack_be(buf: &mut [u8], pos: usize, width: usize, number: u32) -> Packed
+pub fn pack_be(buf: &mut [u8], pos: usize, width: usize, number: u32) -> Result<usize, EncodeError>
     ensures { PackIs (big_endian width number) buf.old pos result buf.new }
 {
     let room = buf.len();
     if room < width {
-        return Packed::Refused(EncodeError::BufferTooSmall);
+        return Err(EncodeError::BufferTooSmall);
     }
     if room - width < pos {
-        return Packed::Refused(EncodeError::BufferTooSmall);
+        return Err(EncodeError::BufferTooSmall);
     }
     put_be(buf, pos, width, number);
-    Packed::Next(pos + width)
+    Ok(pos + width)
 }
 
 // The bits of a signed number as an unsigned one; `last` is the largest of that width.
@@ -277,56 +204,56 @@ pub fn as_u16(value: i16) -> u32
     unsigned(65535, value as i32)
 }
 
-pub fn pack_u32(buf: &mut [u8], pos: usize, value: u32) -> Packed
+pub fn pack_u32(buf: &mut [u8], pos: usize, value: u32) -> Result<usize, EncodeError>
     ensures { PackIs (big_endian 4 value) buf.old pos result buf.new }
 {
     pack_be(buf, pos, 4, value)
 }
 
-pub fn pack_i32(buf: &mut [u8], pos: usize, value: i32) -> Packed
+pub fn pack_i32(buf: &mut [u8], pos: usize, value: i32) -> Result<usize, EncodeError>
     ensures { PackIs (big_endian 4 (unsigned_of (256 ^ 4) value)) buf.old pos result buf.new }
 {
     pack_be(buf, pos, 4, as_u32(value))
 }
 
-pub fn pack_u16(buf: &mut [u8], pos: usize, value: u16) -> Packed
+pub fn pack_u16(buf: &mut [u8], pos: usize, value: u16) -> Result<usize, EncodeError>
     ensures { PackIs (big_endian 2 value) buf.old pos result buf.new }
 {
     pack_be(buf, pos, 2, value as u32)
 }
 
-pub fn pack_i16(buf: &mut [u8], pos: usize, value: i16) -> Packed
+pub fn pack_i16(buf: &mut [u8], pos: usize, value: i16) -> Result<usize, EncodeError>
     ensures { PackIs (big_endian 2 (unsigned_of (256 ^ 2) value)) buf.old pos result buf.new }
 {
     pack_be(buf, pos, 2, as_u16(value))
 }
 
-pub fn pack_u8(buf: &mut [u8], pos: usize, value: u8) -> Packed
+pub fn pack_u8(buf: &mut [u8], pos: usize, value: u8) -> Result<usize, EncodeError>
     ensures { PackIs (big_endian 1 value) buf.old pos result buf.new }
 {
     pack_be(buf, pos, 1, value as u32)
 }
 
 // A value times its scale, toward zero and held: document 01, "Numbers".
-pub fn pack_f32(buf: &mut [u8], pos: usize, value: f32, scale: f32) -> Packed
+pub fn pack_f32(buf: &mut [u8], pos: usize, value: f32, scale: f32) -> Result<usize, EncodeError>
     ensures { PackIs (big_endian 4 (unsigned_of (256 ^ 4) (times_scale value scale))) buf.old pos result buf.new }
 {
     pack_i32(buf, pos, floats::unscaled(value, scale))
 }
 
 // Bytes as they are, all of them or none.
-pub fn pack_bytes(buf: &mut [u8], pos: usize, part: &[u8]) -> Packed
+pub fn pack_bytes(buf: &mut [u8], pos: usize, part: &[u8]) -> Result<usize, EncodeError>
     ensures { PackIs part.now buf.old pos result buf.new }
 {
     let room = buf.len();
     let len = part.len();
     if room < len {
-        return Packed::Refused(EncodeError::BufferTooSmall);
+        return Err(EncodeError::BufferTooSmall);
     }
     if room - len < pos {
-        return Packed::Refused(EncodeError::BufferTooSmall);
+        return Err(EncodeError::BufferTooSmall);
     }
     let end = pos + len;
     buf[pos..end].copy_from_slice(part);
-    Packed::Next(end)
+    Ok(end)
 }

@@ -9,7 +9,6 @@ ghost use Rattle.raw_command.specs.Commands.{form_of, width_of, most_of, flag_by
 ghost use Rattle.raw_command.specs.Reading.{id_named, identified, is_forward, at_most, numbered, plain_with, plain_in, unpacked_command};
 
 use format::CommandId;
-use packer::{Packed, UnpackedU16, UnpackedU32};
 use refusals::{DecodeError, EncodeError};
 
 // A plain command with the whole number that is sent. `command::Command` has the values of a caller; `command::raw_of`
@@ -46,19 +45,7 @@ pub struct Parts {
 }
 
 // What `unpack_command` returns: the command, or the refusal.
-#[derive(Clone, Copy)]
-pub enum UnpackedCommand {
-    Got(RawCommand),
-    Refused(DecodeError),
-}
-
 // Which command has an id, if any.
-#[derive(Clone, Copy)]
-pub enum Identified {
-    Known(CommandId),
-    Unknown,
-}
-
 // What follows an id: `width` bytes, none above `most`.
 #[derive(Clone, Copy)]
 struct Carried {
@@ -133,86 +120,86 @@ pub fn parts_of(command: RawCommand) -> Parts
 
 // The bytes of a plain command at a position, its id first. Ports `Command::pack_into`, which leaves the id behind
 // if its value does not fit; this one then writes nothing.
-pub fn pack_parts(parts: Parts, buf: &mut [u8], pos: usize) -> Packed
+pub fn pack_parts(parts: Parts, buf: &mut [u8], pos: usize) -> Result<usize, EncodeError>
     ensures { PackIs (parts_bytes parts) buf.old pos result buf.new }
 {
     let width = parts.width;
     let room = buf.len();
     if room <= width {
-        return Packed::Refused(EncodeError::BufferTooSmall);
+        return Err(EncodeError::BufferTooSmall);
     }
     if room - width - 1 < pos {
-        return Packed::Refused(EncodeError::BufferTooSmall);
+        return Err(EncodeError::BufferTooSmall);
     }
     packer::pack_u8(buf, pos, parts.id);
     packer::pack_be(buf, pos + 1, width, parts.number)
 }
 
 // The command that has an id. Ports `TryFrom<u8>` of `CommandId`.
-pub fn command_id(byte: u8) -> Identified
+pub fn command_id(byte: u8) -> Option<CommandId>
     ensures { identified byte result ≡ id_named byte }
 {
     if byte == CommandId::FwVersion as u8 {
-        return Identified::Known(CommandId::FwVersion);
+        return Some(CommandId::FwVersion);
     }
     if byte == CommandId::GetValues as u8 {
-        return Identified::Known(CommandId::GetValues);
+        return Some(CommandId::GetValues);
     }
     if byte == CommandId::SetDuty as u8 {
-        return Identified::Known(CommandId::SetDuty);
+        return Some(CommandId::SetDuty);
     }
     if byte == CommandId::SetCurrent as u8 {
-        return Identified::Known(CommandId::SetCurrent);
+        return Some(CommandId::SetCurrent);
     }
     if byte == CommandId::SetCurrentBrake as u8 {
-        return Identified::Known(CommandId::SetCurrentBrake);
+        return Some(CommandId::SetCurrentBrake);
     }
     if byte == CommandId::SetRpm as u8 {
-        return Identified::Known(CommandId::SetRpm);
+        return Some(CommandId::SetRpm);
     }
     if byte == CommandId::SetPos as u8 {
-        return Identified::Known(CommandId::SetPos);
+        return Some(CommandId::SetPos);
     }
     if byte == CommandId::SetHandbrake as u8 {
-        return Identified::Known(CommandId::SetHandbrake);
+        return Some(CommandId::SetHandbrake);
     }
     if byte == CommandId::Reboot as u8 {
-        return Identified::Known(CommandId::Reboot);
+        return Some(CommandId::Reboot);
     }
     if byte == CommandId::Alive as u8 {
-        return Identified::Known(CommandId::Alive);
+        return Some(CommandId::Alive);
     }
     if byte == CommandId::ForwardCan as u8 {
-        return Identified::Known(CommandId::ForwardCan);
+        return Some(CommandId::ForwardCan);
     }
     if byte == CommandId::GetValuesSelective as u8 {
-        return Identified::Known(CommandId::GetValuesSelective);
+        return Some(CommandId::GetValuesSelective);
     }
     if byte == CommandId::GetValuesSetupSelective as u8 {
-        return Identified::Known(CommandId::GetValuesSetupSelective);
+        return Some(CommandId::GetValuesSetupSelective);
     }
     if byte == CommandId::SetCurrentRel as u8 {
-        return Identified::Known(CommandId::SetCurrentRel);
+        return Some(CommandId::SetCurrentRel);
     }
     if byte == CommandId::SetOdometer as u8 {
-        return Identified::Known(CommandId::SetOdometer);
+        return Some(CommandId::SetOdometer);
     }
     if byte == CommandId::GetStats as u8 {
-        return Identified::Known(CommandId::GetStats);
+        return Some(CommandId::GetStats);
     }
     if byte == CommandId::ResetStats as u8 {
-        return Identified::Known(CommandId::ResetStats);
+        return Some(CommandId::ResetStats);
     }
     if byte == CommandId::Shutdown as u8 {
-        return Identified::Known(CommandId::Shutdown);
+        return Some(CommandId::Shutdown);
     }
     if byte == CommandId::FwInfo as u8 {
-        return Identified::Known(CommandId::FwInfo);
+        return Some(CommandId::FwInfo);
     }
     if byte == CommandId::MotorEstop as u8 {
-        return Identified::Known(CommandId::MotorEstop);
+        return Some(CommandId::MotorEstop);
     }
-    Identified::Unknown
+    None
 }
 
 fn carries(width: usize, most: u8) -> Carried
@@ -269,8 +256,8 @@ fn word_in(bytes: &[u8]) -> u32
     ensures { result ≡ be_at bytes.now 1 4 }
 {
     match packer::unpack_u32(bytes, 1) {
-        UnpackedU32::Got(number, _) => number,
-        UnpackedU32::Refused(_) => 0,
+        Ok((number, _)) => number,
+        Err(_) => 0,
     }
 }
 
@@ -280,8 +267,8 @@ fn half_in(bytes: &[u8]) -> u16
     ensures { result ≡ be_at bytes.now 1 2 }
 {
     match packer::unpack_u16(bytes, 1) {
-        UnpackedU16::Got(number, _) => number,
-        UnpackedU16::Refused(_) => 0,
+        Ok((number, _)) => number,
+        Err(_) => 0,
     }
 }
 
@@ -332,34 +319,34 @@ fn command_of(id: CommandId, bytes: &[u8]) -> RawCommand
 }
 
 // The value behind an id, judged by what the id carries.
-fn unpack_value(id: CommandId, bytes: &[u8]) -> UnpackedCommand
+fn unpack_value(id: CommandId, bytes: &[u8]) -> Result<RawCommand, DecodeError>
     requires { is_forward id ≡ false }
     ensures { unpacked_command result ≡ plain_with id bytes.now }
 {
     let carried = carried_by(id);
     if bytes.len() != 1 + carried.width {
-        return UnpackedCommand::Refused(DecodeError::InvalidFrame);
+        return Err(DecodeError::InvalidFrame);
     }
     if at_most(bytes, carried.most) {
-        return UnpackedCommand::Got(command_of(id, bytes));
+        return Ok(command_of(id, bytes));
     }
-    UnpackedCommand::Refused(DecodeError::InvalidFrame)
+    Err(DecodeError::InvalidFrame)
 }
 
 // The plain command that bytes are, from the id to the last: document 02, W2, "the payload from the left". A hop is no
 // plain command.
-pub fn unpack_command(bytes: &[u8]) -> UnpackedCommand
+pub fn unpack_command(bytes: &[u8]) -> Result<RawCommand, DecodeError>
     ensures { unpacked_command result ≡ plain_in bytes.now }
 {
     if bytes.len() <= 0 {
-        return UnpackedCommand::Refused(DecodeError::InvalidFrame);
+        return Err(DecodeError::InvalidFrame);
     }
     let first = bytes[0];
     if first == CommandId::ForwardCan as u8 {
-        return UnpackedCommand::Refused(DecodeError::InvalidFrame);
+        return Err(DecodeError::InvalidFrame);
     }
     match command_id(first) {
-        Identified::Known(id) => unpack_value(id, bytes),
-        Identified::Unknown => UnpackedCommand::Refused(DecodeError::UnknownPacket { id: first }),
+        Some(id) => unpack_value(id, bytes),
+        None => Err(DecodeError::UnknownPacket { id: first }),
     }
 }

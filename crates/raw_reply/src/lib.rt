@@ -13,7 +13,6 @@ ghost use Rattle.reply.specs.declared.Kind.TheVariants as kind;
 use firmware::{FwInfo, RawFwVersion};
 use format::{FRAME_EXTRA, PAYLOAD_AT};
 use raw_telemetry::{RawSetupValues, RawStats, RawValues};
-use refusals::Consumed;
 use reply::{CommandReply, Kind};
 use tables::Sort;
 
@@ -35,7 +34,7 @@ pub struct RawReply {
 // What `read_reply` returns: the count of a good frame with its raw reply, or the refusal with the empty one.
 #[derive(Clone, Copy)]
 pub struct RawRead {
-    pub answer: Consumed,
+    pub answer: Result<usize, DecodeError>,
     pub reply: RawReply,
 }
 
@@ -139,12 +138,12 @@ pub fn read_reply(buf: &[u8]) -> RawRead
     ensures { raw_read result ≡ raw_read_of buf.now }
 {
     match judge::judge(buf) {
-        Consumed::To(count) => RawRead {
-            answer: Consumed::To(count),
+        Ok(count) => RawRead {
+            answer: Ok(count),
             reply: raw_from(&buf[PAYLOAD_AT..count - BEHIND_PAYLOAD]),
         },
-        Consumed::Refused(error) => RawRead {
-            answer: Consumed::Refused(error),
+        Err(error) => RawRead {
+            answer: Err(error),
             reply: blank(Kind::FwVersion),
         },
     }

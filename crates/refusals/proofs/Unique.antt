@@ -3,12 +3,13 @@ use mathlib.Core.Path.{◌≡◌, refl, sym, ap, ◌∙◌}
 use mathlib.Core.Bool.{cond}
 use lib.Dec.{eqb}
 use lib.ListN.{get_or}
-use Rattle.refusals.specs.Refusals.{Refusal, Answer, ok, refused, decode_refusal, encode_refusal, write_back_refusal, reply_write_refusal, feed_refusal, consumed}
+use Rattle.refusals.specs.Refusals.{Refusal, Answer, ok, refused, answer_by, decode_refusal, encode_refusal, write_back_refusal, reply_write_refusal, feed_refusal, consumed}
+use Rattle.std.specs.Prelude.{Result, Ok, Err}
+use Rattle.refusals.proofs.Different.{none}
+use Rattle.refusals.proofs.Answers.{given-same}
 use Rattle.refusals.specs.OneAnswer.{ToldApart, OneAnswer}
 use Rattle.refusals.specs.declared.DecodeError.{DecodeError}
 use Rattle.refusals.specs.declared.DecodeError.TheVariants.{IncompleteData, InvalidFrame, UnknownPacket, ChecksumMismatch}
-use Rattle.refusals.specs.declared.Consumed.{Consumed}
-use Rattle.refusals.specs.declared.Consumed.TheVariants as c
 use Rattle.refusals.specs.declared.EncodeError.{EncodeError}
 use Rattle.refusals.specs.declared.EncodeError.TheVariants.{BufferTooSmall, PayloadTooLong}
 use Rattle.refusals.specs.declared.WriteBackError.{WriteBackError}
@@ -70,22 +71,15 @@ pub feed-back : (e : FeedError) → feed_back (feed_refusal e) ≡ e
 unfolding feed_back
 feed-back NotDrained = refl
 
--- an answer made again from its map's value: `got` of a value, `err` of the error with a refusal's number
-unfoldable pub read_back : {A R : Type 0} → (A → R) → (DecodeError → R) → Answer A → R
-read_back got err (ok value) = got value
-read_back got err (refused why) = err (decode_back why)
+-- a map of errors that tells them apart tells apart what calls return
+pub answer-back : {A E : Type 0} (refusal_of : E → Refusal) (back : Refusal → E) → ((e : E) → back (refusal_of e) ≡ e) → ToldApart (answer_by {A = A} refusal_of)
+answer-back refusal_of back same (Ok value) (Ok other) e = ap Ok (given-same e)
+answer-back refusal_of back same (Ok value) (Err error) e = none (cc)
+answer-back refusal_of back same (Err error) (Ok value) e = none (cc)
+answer-back refusal_of back same (Err error) (Err other) e = ap Err (sym (same error) ∙ ap back (cc) ∙ same other)
 
-unfoldable pub write_back : {A R : Type 0} → (A → R) → (EncodeError → R) → Answer A → R
-write_back got err (ok value) = got value
-write_back got err (refused why) = err (encode_back why)
-
-consumed-back : (a : Consumed) → read_back c.To c.Refused (consumed a) ≡ a
-unfolding read_back
-consumed-back (c.To next) = refl
-consumed-back (c.Refused e) = ap c.Refused (decode-back e)
-
-pub consumed-unique : ToldApart consumed
-consumed-unique = told-apart consumed (read_back c.To c.Refused) consumed-back
+pub consumed-unique : {A : Type 0} → ToldApart (consumed {A = A})
+consumed-unique = answer-back decode_refusal decode_back decode-back
 
 pub one_answer : OneAnswer
 one_answer =

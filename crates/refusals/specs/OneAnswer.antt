@@ -1,6 +1,6 @@
 -- A promise leaves one answer. Document 01, "How tight the promises are": "For each, uniqueness of the answer is
 -- proved". Each crate states it of its own calls, in a record of this name.
-use Rattle.std.specs.Prelude.{◌≡◌}
+use Rattle.std.specs.Prelude.{◌≡◌, ℕ}
 use Rattle.refusals.specs.Refusals.{decode_refusal, encode_refusal, write_back_refusal, reply_write_refusal, feed_refusal, consumed}
 
 -- the map tells its arguments apart: a promise that fixes the map's value fixes the answer
@@ -21,4 +21,4 @@ pub record OneAnswer : Type 0 where
   pub write-back-errors : ToldApart write_back_refusal
   pub reply-write-errors : ToldApart reply_write_refusal
   pub feed-errors : ToldApart feed_refusal
-  pub consumes : ToldApart consumed
+  pub consumes : ToldApart (consumed {A = ℕ})

@@ -1,10 +1,8 @@
 -- Document 01, "Six refusals": each has a number, and values that are returned with it. Document 02 adds 7 to 16: a line each here, with the
 -- request that brings it.
-use Rattle.std.specs.Prelude.{ℕ, List, [], ◌∷◌}
+use Rattle.std.specs.Prelude.{ℕ, List, [], ◌∷◌, Result, Ok, Err}
 use Rattle.refusals.specs.declared.DecodeError.{DecodeError}
 use Rattle.refusals.specs.declared.DecodeError.TheVariants.{IncompleteData, InvalidFrame, UnknownPacket, ChecksumMismatch}
-use Rattle.refusals.specs.declared.Consumed.{Consumed}
-use Rattle.refusals.specs.declared.Consumed.TheVariants as c
 use Rattle.refusals.specs.declared.EncodeError.{EncodeError}
 use Rattle.refusals.specs.declared.EncodeError.TheVariants.{BufferTooSmall, PayloadTooLong}
 use Rattle.refusals.specs.declared.WriteBackError.{WriteBackError}
@@ -67,10 +65,14 @@ decode_refusal InvalidFrame = invalid_frame
 decode_refusal (UnknownPacket id) = unknown_packet id
 decode_refusal (ChecksumMismatch expected actual) = checksum_mismatch expected actual
 
--- how far a slice was read, or the refusal
-abbrev pub consumed : Consumed → Answer ℕ
-consumed (c.To next) = ok next
-consumed (c.Refused e) = refused (decode_refusal e)
+-- what a call returns: its value, or the refusal that its error stands for
+abbrev pub answer_by : {A E : Type 0} → (E → Refusal) → Result A E → Answer A
+answer_by refusal_of (Ok value) = ok value
+answer_by refusal_of (Err error) = refused (refusal_of error)
+
+-- what was read, or the refusal
+abbrev pub consumed : {A : Type 0} → Result A DecodeError → Answer A
+consumed result = answer_by decode_refusal result
 
 -- the refusals of writing
 abbrev pub encode_refusal : EncodeError → Refusal

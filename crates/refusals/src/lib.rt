@@ -6,7 +6,7 @@ ghost use Rattle.std.specs.Prelude.{◌≡◌};
 ghost use Rattle.refusals.specs.Refusals.{decode_refusal, encode_refusal, write_back_refusal, reply_write_refusal, feed_refusal};
 
 // Why a slice is not read.
-#[derive(Clone, Copy)]
+#[derive(Clone, Copy, Debug, PartialEq, Eq)]
 pub enum DecodeError {
     IncompleteData,
     InvalidFrame,
@@ -14,22 +14,15 @@ pub enum DecodeError {
     ChecksumMismatch { expected: u16, actual: u16 },
 }
 
-// How far a slice was read: the place after what was read, or why it is not read.
-#[derive(Clone, Copy)]
-pub enum Consumed {
-    To(usize),
-    Refused(DecodeError),
-}
-
 // Why a buffer is not written.
-#[derive(Clone, Copy)]
+#[derive(Clone, Copy, Debug, PartialEq, Eq)]
 pub enum EncodeError {
     BufferTooSmall,
     PayloadTooLong,
 }
 
 // Why a command that was read is not written back.
-#[derive(Clone, Copy)]
+#[derive(Clone, Copy, Debug, PartialEq, Eq)]
 pub enum WriteBackError {
     InvalidFrame,
     PayloadTooLong,
@@ -37,7 +30,7 @@ pub enum WriteBackError {
 }
 
 // Why a reply is not written.
-#[derive(Clone, Copy)]
+#[derive(Clone, Copy, Debug, PartialEq, Eq)]
 pub enum ReplyWriteError {
     UnknownMaskBits,
     BadName,
@@ -45,7 +38,7 @@ pub enum ReplyWriteError {
 }
 
 // Why the gateway feed takes nothing.
-#[derive(Clone, Copy)]
+#[derive(Clone, Copy, Debug, PartialEq, Eq)]
 pub enum FeedError {
     NotDrained,
 }
@@ -112,6 +105,18 @@ impl FeedError {
     {
         match self {
             FeedError::NotDrained => 15,
+        }
+    }
+}
+
+// A command that is written back meets both refusals of `encode`.
+impl From<EncodeError> for WriteBackError {
+    ghost from_gives = { λ error given. write_back_refusal given ≡ encode_refusal error };
+
+    fn from(error: EncodeError) -> WriteBackError {
+        match error {
+            EncodeError::BufferTooSmall => WriteBackError::BufferTooSmall,
+            EncodeError::PayloadTooLong => WriteBackError::PayloadTooLong,
         }
     }
 }

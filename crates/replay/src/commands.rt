@@ -5,8 +5,6 @@ ghost use Rattle.std.specs.Prelude.{◌<◌};
 use crate::shows;
 use crate::shows::Line;
 use command::Command;
-use encode::Encoded;
-use packer::{UnpackedI32, UnpackedU16, UnpackedU32};
 
 // What a command's number may be: the same four bytes in each of its forms. The flags are the lowest bits.
 #[derive(Clone, Copy)]
@@ -21,12 +19,12 @@ pub struct Number {
 
 pub(crate) fn number_of(case: &[u8]) -> Number {
     let bits = match packer::unpack_u32(case, 1) {
-        UnpackedU32::Got(bits, _) => bits,
-        UnpackedU32::Refused(_) => 0,
+        Ok((bits, _)) => bits,
+        Err(_) => 0,
     };
     let signed = match packer::unpack_i32(case, 1) {
-        UnpackedI32::Got(signed, _) => signed,
-        UnpackedI32::Refused(_) => 0,
+        Ok((signed, _)) => signed,
+        Err(_) => 0,
     };
     let float = floats::f32_from_bits(bits);
     Number {
@@ -43,8 +41,8 @@ pub(crate) fn length_at(case: &[u8], pos: usize) -> usize
     ensures { result < 65536 }
 {
     match packer::unpack_u16(case, pos) {
-        UnpackedU16::Got(length, _) => length as usize,
-        UnpackedU16::Refused(_) => 0,
+        Ok((length, _)) => length as usize,
+        Err(_) => 0,
     }
 }
 
@@ -72,14 +70,14 @@ fn plain(place: u8, n: Number) -> Command {
     }
 }
 
-fn count(text: &mut [u8], line: Line, answer: Encoded) -> Line {
+fn count(text: &mut [u8], line: Line, answer: Result<usize, EncodeError>) -> Line {
     match answer {
-        Encoded::Written(count) => shows::given(text, line, count),
-        Encoded::Refused(e) => shows::refused(text, line, e.number()),
+        Ok(count) => shows::given(text, line, count),
+        Err(e) => shows::refused(text, line, e.number()),
     }
 }
 
-fn encoded(text: &mut [u8], line: Line, answer: Encoded, buf: &[u8]) -> Line {
+fn encoded(text: &mut [u8], line: Line, answer: Result<usize, EncodeError>, buf: &[u8]) -> Line {
     let told = count(text, line, answer);
     let mixed = shows::mix_bytes(text, told, buf);
     shows::digest(text, mixed)

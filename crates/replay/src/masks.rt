@@ -3,7 +3,6 @@
 use crate::shows;
 use crate::shows::Line;
 use command::{StatsMask, ValuesMask, ValuesSetupMask};
-use packer::UnpackedU32;
 
 fn words(text: &mut [u8], line: Line, words: &[u32]) -> Line {
     let mut now = line;
@@ -84,8 +83,8 @@ pub(crate) fn case(text: &mut [u8], line: Line) -> Line {
 
 fn word_at(case: &[u8], pos: usize) -> u32 {
     match packer::unpack_u32(case, pos) {
-        UnpackedU32::Got(word, _) => word,
-        UnpackedU32::Refused(_) => 0,
+        Ok((word, _)) => word,
+        Err(_) => 0,
     }
 }
 

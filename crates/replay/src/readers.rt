@@ -4,9 +4,7 @@
 use crate::commands::Number;
 use crate::shows::Line;
 use crate::{commands, replies, shows};
-use command_reader::WrittenBack;
 use raw_command::RawCommand;
-use refusals::Consumed;
 
 fn raw(place: u8, n: Number) -> RawCommand {
     match place {
@@ -66,10 +64,10 @@ fn flags(first: bool, second: bool) -> u32 {
     }
 }
 
-fn count(text: &mut [u8], line: Line, answer: WrittenBack) -> Line {
+fn count(text: &mut [u8], line: Line, answer: Result<usize, WriteBackError>) -> Line {
     match answer {
-        WrittenBack::Written(count) => shows::given(text, line, count),
-        WrittenBack::Refused(e) => shows::refused(text, line, e.number()),
+        Ok(count) => shows::given(text, line, count),
+        Err(e) => shows::refused(text, line, e.number()),
     }
 }
 
@@ -106,15 +104,15 @@ fn mix_read(text: &mut [u8], line: Line, command: RawCommand, len: usize, hops: 
 
 // A frame that was given is written back, with room for a byte more. None has more than 260 bytes: the test is for the
 // prover.
-fn back(text: &mut [u8], line: Line, hops: &[u8], command: RawCommand, answer: Consumed) -> Line {
+fn back(text: &mut [u8], line: Line, hops: &[u8], command: RawCommand, answer: Result<usize, DecodeError>) -> Line {
     match answer {
-        Consumed::To(count) => {
+        Ok(count) => {
             if 1023 < count {
                 return shows::too_much_room(text, line);
             }
             written(text, line, hops, command, count + 1)
         }
-        Consumed::Refused(_) => line,
+        Err(_) => line,
     }
 }
 

@@ -1,8 +1,7 @@
 // The readers' cases: a scale's bits, a position, and the slice that is read.
 use crate::shows;
 use crate::shows::Line;
-use packer::{UnpackedF32, UnpackedI16, UnpackedI32, UnpackedU8, UnpackedU16, UnpackedU32};
-use refusals::{Consumed, DecodeError};
+use refusals::DecodeError;
 
 // The position after a number that was read, and its bits.
 pub(crate) fn number(text: &mut [u8], line: Line, bits: u32, next: usize) -> Line {
@@ -14,60 +13,60 @@ pub(crate) fn refused(text: &mut [u8], line: Line, e: DecodeError) -> Line {
     shows::refused(text, line, e.number())
 }
 
-pub(crate) fn read_u8(text: &mut [u8], line: Line, read: UnpackedU8) -> Line {
+pub(crate) fn read_u8(text: &mut [u8], line: Line, read: Result<(u8, usize), DecodeError>) -> Line {
     match read {
-        UnpackedU8::Got(value, next) => number(text, line, value as u32, next),
-        UnpackedU8::Refused(e) => refused(text, line, e),
+        Ok((value, next)) => number(text, line, value as u32, next),
+        Err(e) => refused(text, line, e),
     }
 }
 
-fn read_u16(text: &mut [u8], line: Line, read: UnpackedU16) -> Line {
+fn read_u16(text: &mut [u8], line: Line, read: Result<(u16, usize), DecodeError>) -> Line {
     match read {
-        UnpackedU16::Got(value, next) => number(text, line, value as u32, next),
-        UnpackedU16::Refused(e) => refused(text, line, e),
+        Ok((value, next)) => number(text, line, value as u32, next),
+        Err(e) => refused(text, line, e),
     }
 }
 
-pub(crate) fn read_u32(text: &mut [u8], line: Line, read: UnpackedU32) -> Line {
+pub(crate) fn read_u32(text: &mut [u8], line: Line, read: Result<(u32, usize), DecodeError>) -> Line {
     match read {
-        UnpackedU32::Got(value, next) => number(text, line, value, next),
-        UnpackedU32::Refused(e) => refused(text, line, e),
+        Ok((value, next)) => number(text, line, value, next),
+        Err(e) => refused(text, line, e),
     }
 }
 
-fn read_i16(text: &mut [u8], line: Line, read: UnpackedI16) -> Line {
+fn read_i16(text: &mut [u8], line: Line, read: Result<(i16, usize), DecodeError>) -> Line {
     match read {
-        UnpackedI16::Got(value, next) => number(text, line, packer::as_u32(value as i32), next),
-        UnpackedI16::Refused(e) => refused(text, line, e),
+        Ok((value, next)) => number(text, line, packer::as_u32(value as i32), next),
+        Err(e) => refused(text, line, e),
     }
 }
 
-fn read_i32(text: &mut [u8], line: Line, read: UnpackedI32) -> Line {
+fn read_i32(text: &mut [u8], line: Line, read: Result<(i32, usize), DecodeError>) -> Line {
     match read {
-        UnpackedI32::Got(value, next) => number(text, line, packer::as_u32(value), next),
-        UnpackedI32::Refused(e) => refused(text, line, e),
+        Ok((value, next)) => number(text, line, packer::as_u32(value), next),
+        Err(e) => refused(text, line, e),
     }
 }
 
-pub(crate) fn read_f32(text: &mut [u8], line: Line, read: UnpackedF32) -> Line {
+pub(crate) fn read_f32(text: &mut [u8], line: Line, read: Result<(f32, usize), DecodeError>) -> Line {
     match read {
-        UnpackedF32::Got(value, next) => {
+        Ok((value, next)) => {
             let now = shows::given(text, line, next);
             shows::float(text, now, value)
         }
-        UnpackedF32::Refused(e) => refused(text, line, e),
+        Err(e) => refused(text, line, e),
     }
 }
 
-fn position(text: &mut [u8], line: Line, answer: Consumed) -> Line {
+fn position(text: &mut [u8], line: Line, answer: Result<usize, DecodeError>) -> Line {
     match answer {
-        Consumed::To(next) => shows::given(text, line, next),
-        Consumed::Refused(e) => refused(text, line, e),
+        Ok(next) => shows::given(text, line, next),
+        Err(e) => refused(text, line, e),
     }
 }
 
 // What was copied out of the slice, on a refusal too: it must then be zeros.
-pub(crate) fn copied(text: &mut [u8], line: Line, answer: Consumed, bytes: &[u8]) -> Line {
+pub(crate) fn copied(text: &mut [u8], line: Line, answer: Result<usize, DecodeError>, bytes: &[u8]) -> Line {
     let now = position(text, line, answer);
     shows::bytes(text, now, bytes)
 }
@@ -91,8 +90,8 @@ fn uuid_at(text: &mut [u8], line: Line, slice: &[u8], pos: usize) -> Line {
     let bytes = uuid.bytes;
     let answer = uuid.answer;
     match answer {
-        Consumed::To(next) => copied(text, line, Consumed::To(next), &bytes),
-        Consumed::Refused(e) => copied(text, line, Consumed::Refused(e), &bytes),
+        Ok(next) => copied(text, line, Ok(next), &bytes),
+        Err(e) => copied(text, line, Err(e), &bytes),
     }
 }
 
@@ -117,10 +116,10 @@ pub(crate) fn case(text: &mut [u8], line: Line, letter: u8, case: &[u8]) -> Line
         return shows::cut_short(text, line);
     }
     match packer::unpack_f32_auto(case, 0) {
-        UnpackedF32::Got(scale, _) => {
+        Ok((scale, _)) => {
             one(text, line, letter, scale, shows::wide(case[4]), &case[5..])
         }
-        UnpackedF32::Refused(_) => shows::cut_short(text, line),
+        Err(_) => shows::cut_short(text, line),
     }
 }
 

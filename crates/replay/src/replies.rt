@@ -3,7 +3,7 @@
 use crate::shows;
 use crate::shows::Line;
 use firmware::{FwInfo, FwVersion};
-use refusals::{Consumed, DecodeError};
+use refusals::DecodeError;
 use reply::CommandReply;
 use telemetry::{SetupValues, Stats, Values};
 
@@ -182,10 +182,10 @@ fn returned(text: &mut [u8], line: Line, e: DecodeError) -> Line {
     }
 }
 
-pub(crate) fn count(text: &mut [u8], line: Line, answer: Consumed) -> Line {
+pub(crate) fn count(text: &mut [u8], line: Line, answer: Result<usize, DecodeError>) -> Line {
     match answer {
-        Consumed::To(count) => shows::given(text, line, count),
-        Consumed::Refused(e) => returned(text, line, e),
+        Ok(count) => shows::given(text, line, count),
+        Err(e) => returned(text, line, e),
     }
 }
 

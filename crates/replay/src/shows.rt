@@ -2,7 +2,6 @@
 // writes. A word that is too much for a line (a reply has 256) goes into a digest, which oracle/answers works out alike.
 ghost use Rattle.std.specs.Prelude.{◌≡◌, ◌<◌, length};
 
-use packer::Packed;
 use std::io::{Stderr, Stdout};
 
 // The text so far: where it goes, and where a failure is said; where it ends in the buffer, and whether all that was
@@ -52,8 +51,8 @@ fn put(text: &mut [u8], line: Line, byte: u8) -> Line {
         now = flushed(text, line);
     }
     match packer::pack_u8(text, now.used, byte) {
-        Packed::Next(next) => now.used = next,
-        Packed::Refused(_) => {}
+        Ok(next) => now.used = next,
+        Err(_) => {}
     }
     now
 }

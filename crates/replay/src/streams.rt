@@ -4,8 +4,7 @@ ghost use Rattle.std.specs.Prelude.{◌≤◌, length};
 
 use crate::shows::Line;
 use crate::{replies, shows};
-use decoder::{Decoder, Figures, Taken};
-use packer::UnpackedU16;
+use decoder::{Decoder, Figures};
 
 // What the calls have come to: the decoder, the answer's line, how many replies were given, and the place
 // in the stream from which the next piece is taken.
@@ -53,23 +52,23 @@ struct Fed {
 }
 
 // What the gateway feed answered: whether it refused, and the count or the refusal's number.
-fn mix_taken(text: &mut [u8], line: Line, answer: Taken) -> Line {
+fn mix_taken(text: &mut [u8], line: Line, answer: Result<usize, FeedError>) -> Line {
     match answer {
-        Taken::Bytes(count) => {
+        Ok(count) => {
             let now = shows::mix(text, line, 0);
             shows::mix_wide(text, now, count as u64)
         }
-        Taken::Refused(error) => {
+        Err(error) => {
             let now = shows::mix(text, line, 1);
             shows::mix_wide(text, now, error.number() as u64)
         }
     }
 }
 
-fn taken_count(answer: Taken) -> usize {
+fn taken_count(answer: Result<usize, FeedError>) -> usize {
     match answer {
-        Taken::Bytes(count) => count,
-        Taken::Refused(_) => 0,
+        Ok(count) => count,
+        Err(_) => 0,
     }
 }
 
@@ -277,8 +276,8 @@ fn repeated(
 
 fn number_at(case: &[u8], pos: usize) -> usize {
     match packer::unpack_u16(case, pos) {
-        UnpackedU16::Got(number, _) => number as usize,
-        UnpackedU16::Refused(_) => 0,
+        Ok((number, _)) => number as usize,
+        Err(_) => 0,
     }
 }
 

@@ -5,7 +5,6 @@ ghost use Rattle.unpacker.specs.Unpacker.{unsigned_read, scaled_read, name_read,
 ghost use Rattle.replay.specs.InARow.{in_a_row, row_four};
 
 use names::Name39;
-use packer::{UnpackedF32, UnpackedU8, UnpackedU32};
 use unpacker::{StepF32, StepName39, StepU8, StepU32, Unpacker};
 
 pub(crate) fn start(buf: &[u8]) -> usize
@@ -50,10 +49,10 @@ pub(crate) fn name39_at(buf: &[u8], pos: usize) -> StepName39
 // Four reads in a row: what each answers, and where the position stands after the last.
 #[derive(Clone, Copy)]
 pub(crate) struct Row {
-    pub(crate) byte: UnpackedU8,
+    pub(crate) byte: Result<(u8, usize), DecodeError>,
     pub(crate) name: Name39,
-    pub(crate) number: UnpackedU32,
-    pub(crate) scaled: UnpackedF32,
+    pub(crate) number: Result<(u32, usize), DecodeError>,
+    pub(crate) scaled: Result<(f32, usize), DecodeError>,
     pub(crate) pos: usize,
 }
 

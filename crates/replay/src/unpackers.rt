@@ -3,7 +3,6 @@
 use crate::shows::Line;
 use crate::{reads, shows, thin};
 use names::Name39;
-use packer::UnpackedF32;
 
 fn position(text: &mut [u8], line: Line, pos: usize) -> Line {
     shows::decimal(text, line, pos as u64)
@@ -94,8 +93,8 @@ fn reads_of(text: &mut [u8], line: Line, scale: f32, case: &[u8]) -> Line {
 
 pub(crate) fn case(text: &mut [u8], line: Line, case: &[u8]) -> Line {
     match packer::unpack_f32_auto(case, 0) {
-        UnpackedF32::Got(scale, _) => reads_of(text, line, scale, case),
-        UnpackedF32::Refused(_) => shows::cut_short(text, line),
+        Ok((scale, _)) => reads_of(text, line, scale, case),
+        Err(_) => shows::cut_short(text, line),
     }
 }
 
@@ -114,12 +113,12 @@ fn four(text: &mut [u8], line: Line, slice: &[u8], scale: f32) -> Line {
 
 pub(crate) fn in_a_row(text: &mut [u8], line: Line, case: &[u8]) -> Line {
     match packer::unpack_f32_auto(case, 0) {
-        UnpackedF32::Got(scale, next) => {
+        Ok((scale, next)) => {
             if case.len() < next {
                 return shows::cut_short(text, line);
             }
             four(text, line, &case[next..], scale)
         }
-        UnpackedF32::Refused(_) => shows::cut_short(text, line),
+        Err(_) => shows::cut_short(text, line),
     }
 }

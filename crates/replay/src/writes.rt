@@ -2,28 +2,27 @@
 // holds A5 everywhere, so that what is not written shows.
 use crate::shows;
 use crate::shows::Line;
-use packer::{Packed, UnpackedF32, UnpackedI32, UnpackedU32};
 
-fn position(text: &mut [u8], line: Line, answer: Packed) -> Line {
+fn position(text: &mut [u8], line: Line, answer: Result<usize, EncodeError>) -> Line {
     match answer {
-        Packed::Next(next) => shows::given(text, line, next),
-        Packed::Refused(e) => shows::refused(text, line, e.number()),
+        Ok(next) => shows::given(text, line, next),
+        Err(e) => shows::refused(text, line, e.number()),
     }
 }
 
-fn written(text: &mut [u8], line: Line, answer: Packed, slice: &[u8]) -> Line {
+fn written(text: &mut [u8], line: Line, answer: Result<usize, EncodeError>, slice: &[u8]) -> Line {
     let now = position(text, line, answer);
     shows::bytes(text, now, slice)
 }
 
-fn packed(letter: u8, scale: f32, slice: &mut [u8], pos: usize, value: u32, case: &[u8]) -> Packed {
+fn packed(letter: u8, scale: f32, slice: &mut [u8], pos: usize, value: u32, case: &[u8]) -> Result<usize, EncodeError> {
     match letter {
         b'B' => packer::pack_u8(slice, pos, (value % 256) as u8),
         b'S' => packer::pack_u16(slice, pos, (value % 65536) as u16),
         b'U' => packer::pack_u32(slice, pos, value),
         b'I' => match packer::unpack_i32(case, 6) {
-            UnpackedI32::Got(signed, _) => packer::pack_i32(slice, pos, signed),
-            UnpackedI32::Refused(_) => packer::pack_u32(slice, pos, value),
+            Ok((signed, _)) => packer::pack_i32(slice, pos, signed),
+            Err(_) => packer::pack_u32(slice, pos, value),
         },
         _ => packer::pack_f32(slice, pos, floats::f32_from_bits(value), scale),
     }
@@ -43,10 +42,10 @@ fn one(text: &mut [u8], line: Line, letter: u8, scale: f32, case: &[u8], value: 
 
 pub(crate) fn case(text: &mut [u8], line: Line, letter: u8, case: &[u8]) -> Line {
     match packer::unpack_f32_auto(case, 0) {
-        UnpackedF32::Got(scale, _) => match packer::unpack_u32(case, 6) {
-            UnpackedU32::Got(value, _) => one(text, line, letter, scale, case, value),
-            UnpackedU32::Refused(_) => shows::cut_short(text, line),
+        Ok((scale, _)) => match packer::unpack_u32(case, 6) {
+            Ok((value, _)) => one(text, line, letter, scale, case, value),
+            Err(_) => shows::cut_short(text, line),
         },
-        UnpackedF32::Refused(_) => shows::cut_short(text, line),
+        Err(_) => shows::cut_short(text, line),
     }
 }

@@ -11,7 +11,6 @@ ghost use Rattle.reply.specs.Reply.{kind_number, blank_of, empty_reply, with_val
 ghost use Rattle.reply.specs.Decode.{reply_in, decode_of, decoded};
 
 use firmware::{FwInfo, FwVersion};
-use refusals::Consumed;
 use tables::Sort;
 use telemetry::{SetupValues, Stats, Values};
 
@@ -41,7 +40,7 @@ pub struct CommandReply {
 // What `decode` answers: the count of a good frame with its reply, or the refusal with the empty one.
 #[derive(Clone, Copy)]
 pub struct Decoded {
-    pub answer: Consumed,
+    pub answer: Result<usize, DecodeError>,
     pub reply: CommandReply,
 }
 
@@ -185,12 +184,12 @@ pub fn decode(buf: &[u8]) -> Decoded
     ensures { decoded result ≡ decode_of buf.now }
 {
     match judge::judge(buf) {
-        Consumed::To(count) => Decoded {
-            answer: Consumed::To(count),
+        Ok(count) => Decoded {
+            answer: Ok(count),
             reply: reply_in(buf),
         },
-        Consumed::Refused(error) => Decoded {
-            answer: Consumed::Refused(error),
+        Err(error) => Decoded {
+            answer: Err(error),
             reply: empty(),
         },
     }

@@ -22,8 +22,6 @@ ghost use Rattle.reply_writer.specs.Writer.{is_name, known_mask, good_names, pay
 
 use firmware::{FwInfo, RawFwVersion};
 use format::{FRAME_EXTRA, PAYLOAD_AT};
-use names::NameSent;
-use packer::Packed;
 use raw_reply::RawReply;
 use raw_telemetry::RawValues;
 use refusals::ReplyWriteError;
@@ -31,12 +29,6 @@ use reply::Kind;
 use tables::Sort;
 
 // What `write_reply` returns: how many bytes the frame has, or the refusal.
-#[derive(Clone, Copy)]
-pub enum ReplyWritten {
-    Written(usize),
-    Refused(ReplyWriteError),
-}
-
 // Whether the mask of the kind that is written has no bit but its table's. GetValues sends no mask.
 fn known_mask(reply: RawReply) -> bool
     ensures { result ≡ known_mask reply }
@@ -61,8 +53,8 @@ fn is_name(held: &[u8]) -> bool
     ensures { result ≡ is_name (length held.now) held.now }
 {
     match names::sent_len(held) {
-        NameSent::Bytes(_) => true,
-        NameSent::Bad => false,
+        Some(_) => true,
+        None => false,
     }
 }
 
@@ -115,13 +107,13 @@ fn name_len(held: &[u8]) -> usize
     ensures { (result ≡ place_or 0 (sent_of (length held.now) held.now)) × (result ≤ length held.now) }
 {
     match names::sent_len(held) {
-        NameSent::Bytes(len) => len,
-        NameSent::Bad => 0,
+        Some(len) => len,
+        None => 0,
     }
 }
 
 // A name at a position, without the zeros behind its NUL.
-fn pack_name(held: &[u8], buf: &mut [u8], pos: usize) -> Packed
+fn pack_name(held: &[u8], buf: &mut [u8], pos: usize) -> Result<usize, EncodeError>
     ensures { PackIs (take (place_or 0 (sent_of (length held.now) held.now)) held.now) buf.old pos result buf.new }
 {
     let len = name_len(held);
@@ -170,7 +162,7 @@ fn payload_len(reply: RawReply) -> usize
 }
 
 // Bytes one after the other from a position on.
-fn pack_each(part: &[u8], buf: &mut [u8], pos: usize) -> Packed
+fn pack_each(part: &[u8], buf: &mut [u8], pos: usize) -> Result<usize, EncodeError>
     requires { pos + length part.now ≤ length buf.old }
     ensures { PackIs (digits (replicate (length part.now) 1) part.now) buf.old pos result buf.new }
 {
@@ -179,7 +171,7 @@ fn pack_each(part: &[u8], buf: &mut [u8], pos: usize) -> Packed
         packer::pack_u8(buf, pos + k, part[k]);
         k += 1;
     }
-    Packed::Next(pos + k)
+    Ok(pos + k)
 }
 
 // A masked reply: the id, the mask, and the fields that the mask has, from the raw numbers of all.
@@ -189,7 +181,7 @@ fn pack_masked(
     mask: u32,
     raw: [u32; format::TABLE_ROWS],
     buf: &mut [u8],
-) -> Packed
+) -> Result<usize, EncodeError>
     requires { payload_at + length (digits (1 ∷ mask_widths mask (table_of sort)) (id ∷ mask ∷ raw)) ≤ length buf.old }
     ensures { PackIs (digits (1 ∷ mask_widths mask (table_of sort)) (id ∷ mask ∷ raw)) buf.old payload_at result buf.new }
 {
@@ -199,7 +191,7 @@ fn pack_masked(
 }
 
 // GetValues: the id, and every field.
-fn pack_get_values(values: RawValues, buf: &mut [u8]) -> Packed
+fn pack_get_values(values: RawValues, buf: &mut [u8]) -> Result<usize, EncodeError>
     requires { payload_at + length (digits (1 ∷ widths all_values values_table) (kind_number kind.GetValues ∷ numbers_of values_table (values_rows values))) ≤ length buf.old }
     ensures { PackIs (digits (1 ∷ widths all_values values_table) (kind_number kind.GetValues ∷ numbers_of values_table (values_rows values))) buf.old payload_at result buf.new }
 {
@@ -214,7 +206,7 @@ fn pack_get_values(values: RawValues, buf: &mut [u8]) -> Packed
 }
 
 // What follows hw_name in FwVersion.
-fn pack_fw_version_after(version: RawFwVersion, buf: &mut [u8], pos: usize) -> Packed
+fn pack_fw_version_after(version: RawFwVersion, buf: &mut [u8], pos: usize) -> Result<usize, EncodeError>
     requires { pos + length (written fw_version_rest (version_raws version).1.1) ≤ length buf.old }
     ensures { PackIs (written fw_version_rest (version_raws version).1.1) buf.old pos result buf.new }
 {
@@ -237,7 +229,7 @@ fn pack_fw_version_after(version: RawFwVersion, buf: &mut [u8], pos: usize) -> P
     packer::pack_u32(buf, end, version.hw_crc)
 }
 
-fn pack_fw_version(version: RawFwVersion, buf: &mut [u8]) -> Packed
+fn pack_fw_version(version: RawFwVersion, buf: &mut [u8]) -> Result<usize, EncodeError>
     requires { payload_at + length (kind_number kind.FwVersion ∷ written fw_version_layout (version_raws version)) ≤ length buf.old }
     ensures { PackIs (kind_number kind.FwVersion ∷ written fw_version_layout (version_raws version)) buf.old payload_at result buf.new }
 {
@@ -249,7 +241,7 @@ fn pack_fw_version(version: RawFwVersion, buf: &mut [u8]) -> Packed
     pack_fw_version_after(version, buf, end)
 }
 
-fn pack_fw_info(info: FwInfo, buf: &mut [u8]) -> Packed
+fn pack_fw_info(info: FwInfo, buf: &mut [u8]) -> Result<usize, EncodeError>
     requires { payload_at + length (kind_number kind.FwInfo ∷ written fw_info_layout (info_raws info)) ≤ length buf.old }
     ensures { PackIs (kind_number kind.FwInfo ∷ written fw_info_layout (info_raws info)) buf.old payload_at result buf.new }
 {
@@ -268,7 +260,7 @@ fn pack_fw_info(info: FwInfo, buf: &mut [u8]) -> Packed
 }
 
 // The payload at its place in a buffer that has room for it.
-fn pack_payload(reply: RawReply, buf: &mut [u8]) -> Packed
+fn pack_payload(reply: RawReply, buf: &mut [u8]) -> Result<usize, EncodeError>
     requires { payload_at + length (payload_of reply) ≤ length buf.old }
     ensures { PackIs (payload_of reply) buf.old payload_at result buf.new }
 {
@@ -303,28 +295,28 @@ fn pack_payload(reply: RawReply, buf: &mut [u8]) -> Packed
 }
 
 // The frame of a reply whose mask and names are good. With room for it `frame::wrap` refuses nothing: no payload of a reply is too long.
-fn write_good(reply: RawReply, buf: &mut [u8]) -> ReplyWritten
+fn write_good(reply: RawReply, buf: &mut [u8]) -> Result<usize, ReplyWriteError>
     requires { (known_mask reply ≡ true) × (good_names reply ≡ true) }
     ensures { WriteIs reply buf.old result buf.new }
 {
     let len = payload_len(reply);
     if buf.len() < len + FRAME_EXTRA {
-        return ReplyWritten::Refused(ReplyWriteError::BufferTooSmall); // refusal 5, tested last
+        return Err(ReplyWriteError::BufferTooSmall); // refusal 5, tested last
     }
     pack_payload(reply, buf);
     frame::wrap(len, buf);
-    ReplyWritten::Written(len + FRAME_EXTRA)
+    Ok(len + FRAME_EXTRA)
 }
 
 // Writes the frame of a raw reply at the front of `buf`. A refusal writes nothing.
-pub fn write_reply(reply: RawReply, buf: &mut [u8]) -> ReplyWritten
+pub fn write_reply(reply: RawReply, buf: &mut [u8]) -> Result<usize, ReplyWriteError>
     ensures { WriteIs reply buf.old result buf.new }
 {
     if known_mask(reply) {
         if good_names(reply) {
             return write_good(reply, buf);
         }
-        return ReplyWritten::Refused(ReplyWriteError::BadName); // refusal 7, tested before 5
+        return Err(ReplyWriteError::BadName); // refusal 7, tested before 5
     }
-    ReplyWritten::Refused(ReplyWriteError::UnknownMaskBits) // refusal 8, tested first
+    Err(ReplyWriteError::UnknownMaskBits) // refusal 8, tested first
 }

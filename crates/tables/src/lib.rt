@@ -12,7 +12,6 @@ ghost use Rattle.tables.specs.Bits.{HasBits};
 ghost use Rattle.tables.specs.Sorts.{table_of, known_bits};
 ghost use Rattle.tables.specs.Rows.{Rows, row_takes, widths_by, padded};
 
-use packer::Packed;
 use refusals::EncodeError;
 
 // Which record a masked reply carries, and so which table it goes by.
@@ -240,17 +239,17 @@ fn pack_by(
     mask: u32,
     rows: &[u8],
     raw: [u32; format::TABLE_ROWS],
-) -> Packed
+) -> Result<usize, EncodeError>
     requires { Rows rows.now }
     ensures { PackIs (digits (widths_by mask rows.now) raw) buf.old pos result buf.new }
 {
     let size = span_by(mask, rows);
     let room = buf.len();
     if room < size {
-        return Packed::Refused(EncodeError::BufferTooSmall);
+        return Err(EncodeError::BufferTooSmall);
     }
     if room - size < pos {
-        return Packed::Refused(EncodeError::BufferTooSmall);
+        return Err(EncodeError::BufferTooSmall);
     }
     let mut at = pos;
     let mut k: usize = 0;
@@ -260,7 +259,7 @@ fn pack_by(
         at += taken;
         k += 1;
     }
-    Packed::Next(at)
+    Ok(at)
 }
 
 // Writes at `pos` the fields of a masked reply that a mask has, in the table's order, from their raw
@@ -272,7 +271,7 @@ pub fn pack_fields(
     sort: Sort,
     mask: u32,
     raw: [u32; format::TABLE_ROWS],
-) -> Packed
+) -> Result<usize, EncodeError>
     ensures { PackIs (digits (widths mask (table_of sort)) raw) buf.old pos result buf.new }
 {
     match sort {

@@ -7,7 +7,6 @@ ghost use Rattle.std.specs.Prelude.{◌≡◌, ◌<◌, ◌&&◌, [], ◌∷◌,
 ghost use Rattle.text.specs.Utf8.{range, table, within, stands, front_length, well_formed};
 ghost use Rattle.text.specs.Text.{has_text, text_of, FoundText};
 
-use refusals::Consumed;
 
 // Whether the byte lies in a range.
 fn is_within(first: u8, last: u8, byte: u8) -> bool
@@ -127,13 +126,13 @@ fn find_text(name: &[u8]) -> TextPart
     ensures { FoundText name.now result.has result.size }
 {
     match names::find_nul(name, 0, name.len()) {
-        Consumed::To(next) => {
+        Ok(next) => {
             let end = next - 1;
             let has = well_formed(&name[..end]);
             let size = if has { end } else { 0 };
             TextPart { has, size }
         }
-        Consumed::Refused(_) => TextPart {
+        Err(_) => TextPart {
             has: false,
             size: 0,
         },

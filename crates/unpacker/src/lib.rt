@@ -12,8 +12,6 @@ ghost use Rattle.format.specs.Format.{name_room};
 ghost use Rattle.unpacker.specs.Unpacker.{fresh, place_after, name_end, unsigned_read, scaled_read, name_read, step_u8, step_u32, step_f32, step_name39, ReadIs};
 
 use names::Name39;
-use packer::{UnpackedF32, UnpackedU8, UnpackedU32};
-use refusals::Consumed;
 
 #[derive(Clone, Copy)]
 pub struct Unpacker<'a> {
@@ -24,19 +22,19 @@ pub struct Unpacker<'a> {
 // A step: what a read answers, and where it leaves the position.
 #[derive(Clone, Copy)]
 pub struct StepU8 {
-    pub answer: UnpackedU8,
+    pub answer: Result<(u8, usize), DecodeError>,
     pub pos: usize,
 }
 
 #[derive(Clone, Copy)]
 pub struct StepU32 {
-    pub answer: UnpackedU32,
+    pub answer: Result<(u32, usize), DecodeError>,
     pub pos: usize,
 }
 
 #[derive(Clone, Copy)]
 pub struct StepF32 {
-    pub answer: UnpackedF32,
+    pub answer: Result<(f32, usize), DecodeError>,
     pub pos: usize,
 }
 
@@ -48,42 +46,42 @@ pub struct StepName39 {
 
 // Where a number leaves the position. The Rust's `consume` tests before it moves, so that a refusal
 // leaves it as it was.
-fn after_u8(answer: UnpackedU8, pos: usize) -> usize
+fn after_u8(answer: Result<(u8, usize), DecodeError>, pos: usize) -> usize
     ensures { result ≡ place_after (unpacked_u8 answer) pos }
 {
     match answer {
-        UnpackedU8::Got(_, next) => next,
-        UnpackedU8::Refused(_) => pos,
+        Ok((_, next)) => next,
+        Err(_) => pos,
     }
 }
 
-fn after_u32(answer: UnpackedU32, pos: usize) -> usize
+fn after_u32(answer: Result<(u32, usize), DecodeError>, pos: usize) -> usize
     ensures { result ≡ place_after (unpacked_u32 answer) pos }
 {
     match answer {
-        UnpackedU32::Got(_, next) => next,
-        UnpackedU32::Refused(_) => pos,
+        Ok((_, next)) => next,
+        Err(_) => pos,
     }
 }
 
-fn after_f32(answer: UnpackedF32, pos: usize) -> usize
+fn after_f32(answer: Result<(f32, usize), DecodeError>, pos: usize) -> usize
     ensures { result ≡ place_after (unpacked_f32 answer) pos }
 {
     match answer {
-        UnpackedF32::Got(_, next) => next,
-        UnpackedF32::Refused(_) => pos,
+        Ok((_, next)) => next,
+        Err(_) => pos,
     }
 }
 
 // Where the Rust's loop over a name stops. A refusal that is not for want of bytes has seen all the
 // room, so that the sum fits.
-fn name_end(scan: Consumed, buf: &[u8], pos: usize, room: usize) -> usize
+fn name_end(scan: Result<usize, DecodeError>, buf: &[u8], pos: usize, room: usize) -> usize
     requires { consumed scan ≡ (name_at room buf.now pos).answer }
     ensures { result ≡ name_end room buf.now pos (consumed scan) }
 {
     match scan {
-        Consumed::To(next) => next,
-        Consumed::Refused(e) => {
+        Ok(next) => next,
+        Err(e) => {
             if e.number() != 1 {
                 return pos + room;
             }
@@ -135,7 +133,7 @@ impl<'a> Unpacker<'a> {
         Unpacker { buf, pos: 0 }
     }
 
-    pub fn unpack_u8(&mut self) -> UnpackedU8
+    pub fn unpack_u8(&mut self) -> Result<(u8, usize), DecodeError>
         ensures { ReadIs (unsigned_read 1) self.old (unpacked_u8 result) self.new }
     {
         let buf = self.buf;
@@ -145,7 +143,7 @@ impl<'a> Unpacker<'a> {
         step.answer
     }
 
-    pub fn unpack_u32(&mut self) -> UnpackedU32
+    pub fn unpack_u32(&mut self) -> Result<(u32, usize), DecodeError>
         ensures { ReadIs (unsigned_read 4) self.old (unpacked_u32 result) self.new }
     {
         let buf = self.buf;
@@ -155,7 +153,7 @@ impl<'a> Unpacker<'a> {
         step.answer
     }
 
-    pub fn unpack_f32(&mut self, scale: f32) -> UnpackedF32
+    pub fn unpack_f32(&mut self, scale: f32) -> Result<(f32, usize), DecodeError>
         ensures { ReadIs (scaled_read 4 scale) self.old (unpacked_f32 result) self.new }
     {
         let buf = self.buf;

@@ -3,8 +3,7 @@ ghost use Rattle.std.specs.Prelude.{◌≡◌, length};
 
 use crate::says;
 use command::Command;
-use encode::Encoded;
-use refusals::{Consumed, DecodeError};
+use refusals::DecodeError;
 
 fn line(rt: &(impl Print + Eprint), word: &str, n: usize) {
     says::text(rt, word);
@@ -13,10 +12,10 @@ fn line(rt: &(impl Print + Eprint), word: &str, n: usize) {
 }
 
 // The number of bytes written, or document 01's number of the refusal.
-fn encoded(rt: &(impl Print + Eprint), answer: Encoded) {
+fn encoded(rt: &(impl Print + Eprint), answer: Result<usize, EncodeError>) {
     match answer {
-        Encoded::Written(n) => line(rt, "written ", n),
-        Encoded::Refused(e) => line(rt, "refused ", e.number() as usize),
+        Ok(n) => line(rt, "written ", n),
+        Err(e) => line(rt, "refused ", e.number() as usize),
     }
 }
 
@@ -41,10 +40,10 @@ fn refused(rt: &(impl Print + Eprint), e: DecodeError) {
     says::text(rt, "\n");
 }
 
-pub(crate) fn judged(rt: &(impl Print + Eprint), answer: Consumed) {
+pub(crate) fn judged(rt: &(impl Print + Eprint), answer: Result<usize, DecodeError>) {
     match answer {
-        Consumed::To(n) => line(rt, "good ", n),
-        Consumed::Refused(e) => refused(rt, e),
+        Ok(n) => line(rt, "good ", n),
+        Err(e) => refused(rt, e),
     }
 }
 

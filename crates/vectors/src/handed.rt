@@ -1,7 +1,7 @@
 // States that are handed in: W12's mark decides, and a state that no calls can make is taken as a fresh one. Each
 // gets a byte by the gateway feed, and has been fed 7 before, which a fresh one has not.
 use crate::says;
-use decoder::{Decoder, Taken};
+use decoder::Decoder;
 
 fn state(buf: [u8; 512], rpos: usize, wpos: usize, drained: bool) -> Decoder {
     Decoder {
@@ -22,11 +22,11 @@ fn shown(rt: &(impl Print + Eprint), what: &str, handed: Decoder) {
     let answer = fed.answer;
     let after = fed.decoder;
     match answer {
-        Taken::Bytes(count) => {
+        Ok(count) => {
             says::text(rt, ": taken ");
             says::decimal(rt, count as u64);
         }
-        Taken::Refused(error) => {
+        Err(error) => {
             says::text(rt, ": refused ");
             says::decimal(rt, error.number() as u64);
         }

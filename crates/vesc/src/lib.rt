@@ -5,14 +5,14 @@
 
 pub use codes::{FaultCode, HwType, QmlHw, fault_number, hw_type_number, qml_hw_number};
 pub use command::{Command, StatsMask, ValuesMask, ValuesSetupMask, raw_of};
-pub use command_reader::{CommandRead, WrittenBack, hop_part, read_command, write_command};
-pub use decoder::{Decoder, Fed, Figures, GatewayFed, Next, Taken};
-pub use encode::{Encoded, encode};
+pub use command_reader::{CommandRead, hop_part, read_command, write_command};
+pub use decoder::{Decoder, Fed, Figures, GatewayFed, Next};
+pub use encode::encode;
 pub use firmware::{FwInfo, FwVersion};
 pub use format::CommandId;
 pub use judge::judge;
 pub use raw_command::RawCommand;
-pub use refusals::{Consumed, DecodeError, EncodeError, FeedError, WriteBackError};
+pub use refusals::{DecodeError, EncodeError, FeedError, WriteBackError};
 pub use reply::{CommandReply, Decoded, Kind, decode};
 pub use telemetry::{SetupValues, Stats, Values};
 pub use text::{has_text, text};

@@ -6,7 +6,7 @@
 mod printing;
 mod waiting;
 
-use decoder::{Decoder, Taken};
+use decoder::Decoder;
 use std::io::Read;
 use std::rt::Runtime;
 
@@ -45,11 +45,11 @@ fn asked(rt: &impl Runtime, line: Line, text: &mut [u8]) -> Line {
 }
 
 // How many bytes were taken.
-fn taken_count(rt: &impl Eprint, answer: Taken) -> usize {
+fn taken_count(rt: &impl Eprint, answer: Result<usize, FeedError>) -> usize {
     match answer {
-        Taken::Bytes(count) => count,
+        Ok(count) => count,
         // Never so: `asked` leaves a drained decoder.
-        Taken::Refused(_) => {
+        Err(_) => {
             let _ = eprintln!(rt; "vescline: bytes refused: not drained");
             0
         }

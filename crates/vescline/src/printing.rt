@@ -2,7 +2,6 @@
 // is checked; a failure is said on standard error.
 use crate::waiting;
 use decoder::Figures;
-use packer::Packed;
 use std::io::{Error, ErrorKind};
 use std::rt::{Files, Runtime};
 use std::{fs, str};
@@ -17,8 +16,8 @@ pub(crate) fn has_room(text: &[u8], used: usize) -> bool {
 
 fn put(text: &mut [u8], used: usize, byte: u8) -> usize {
     match packer::pack_u8(text, used, byte) {
-        Packed::Next(next) => next,
-        Packed::Refused(_) => used,
+        Ok(next) => next,
+        Err(_) => used,
     }
 }
 
