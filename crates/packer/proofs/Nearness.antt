@@ -13,11 +13,12 @@ use Rattle.floats.specs.Numbers.{over_scale}
 use Rattle.floats.proofs.OverScale.{reading-near}
 use Rattle.floats.proofs.Scales.{scales}
 use Rattle.packer.specs.Numbers.{be_at, signed_of}
-use Rattle.packer.specs.Unpacking.{scaled_at, unpacked_f32}
+use Rattle.packer.specs.Unpacking.{scaled_at}
 use Rattle.packer.specs.Nearness.{Bytes, raw_at, ScaledNear, ResultNear}
 use Rattle.packer.proofs.Places.{read-given}
-use Rattle.packer.specs.declared.UnpackedF32.{UnpackedF32}
-use Rattle.packer.specs.declared.UnpackedF32.TheVariants.{Got, Refused}
+use Rattle.std.specs.Prelude.{Result, Ok, Err}
+use Rattle.refusals.specs.Refusals.{consumed}
+use Rattle.refusals.specs.declared.DecodeError.{DecodeError}
 
 -- a signed number of either width is at most 2 ^ 31 from zero
 signed-size : (all n : ℕ) → all ≤ 2 ^ 32 → size (signed_of all n) ≤ 2 ^ 31
@@ -65,19 +66,19 @@ million = record { is = scales.million; positive = omega arith; small = omega ar
 
 -- whatever meets the contract of a scaled reader
 module _ (width : ℕ) (narrow : 256 ^ width ≤ 2 ^ 32) {scale : ℕ} {literal : Float} (t : TableScale scale literal) where
-  result-near : (s : List ℕ) (at : ℕ) (r : UnpackedF32) → unpacked_f32 r ≡ scaled_at width literal s at → ResultNear width scale s at r
-  result-near s at (Got value next) e =
+  result-near : (s : List ℕ) (at : ℕ) (r : Result (Float × ℕ) DecodeError) → consumed r ≡ scaled_at width literal s at → ResultNear width scale s at r
+  result-near s at (Ok (value, next)) e =
       subst (ScaledNear width scale s at)
       (ap (over_scale (raw_at width s at)) t.is ∙ ap (λ (r : Float × ℕ). r.0) (read-given width _ s at (value, next) (sym e)).1)
       (scaled-near width scale narrow t.positive t.small s at)
-  result-near s at (Refused e) p = tt
+  result-near s at (Err e) p = tt
 
 -- of the results of `unpack_f32`, at each scale of the tables
-pub unpack-f32-near : {scale : ℕ} {literal : Float} → TableScale scale literal → (s : List ℕ) (at : ℕ) (r : UnpackedF32)
-    → unpacked_f32 r ≡ scaled_at 4 literal s at → ResultNear 4 scale s at r
+pub unpack-f32-near : {scale : ℕ} {literal : Float} → TableScale scale literal → (s : List ℕ) (at : ℕ) (r : Result (Float × ℕ) DecodeError)
+    → consumed r ≡ scaled_at 4 literal s at → ResultNear 4 scale s at r
 unpack-f32-near t = result-near 4 (omega arith) t
 
 -- and of `unpack_f16`
-pub unpack-f16-near : {scale : ℕ} {literal : Float} → TableScale scale literal → (s : List ℕ) (at : ℕ) (r : UnpackedF32)
-    → unpacked_f32 r ≡ scaled_at 2 literal s at → ResultNear 2 scale s at r
+pub unpack-f16-near : {scale : ℕ} {literal : Float} → TableScale scale literal → (s : List ℕ) (at : ℕ) (r : Result (Float × ℕ) DecodeError)
+    → consumed r ≡ scaled_at 2 literal s at → ResultNear 2 scale s at r
 unpack-f16-near t = result-near 2 (omega arith) t

@@ -1,9 +1,8 @@
 -- The error bound of document 01, "Numbers", of what the scaled readers answer.
-use Rattle.std.specs.Prelude.{ℕ, ◌^◌, ◌<◌, List, ℤ, Float, get_or}
+use Rattle.std.specs.Prelude.{ℕ, ◌^◌, ◌<◌, List, ℤ, Float, Result, Ok, Err, get_or}
 use Rattle.floats.specs.Near.{Near, negative, size, nearness}
 use Rattle.packer.specs.Numbers.{be_at, signed_of}
-use Rattle.packer.specs.declared.UnpackedF32.{UnpackedF32}
-use Rattle.packer.specs.declared.UnpackedF32.TheVariants.{Got, Refused}
+use Rattle.refusals.specs.declared.DecodeError.{DecodeError}
 
 -- each number of a list is a byte, as in every slice of bytes
 abbrev pub Bytes : List ℕ → Type 0
@@ -18,6 +17,6 @@ abbrev pub ScaledNear : ℕ → ℕ → List ℕ → ℕ → Float → Type 0
 ScaledNear width scale s at x = Near x (negative (raw_at width s at)) (size (raw_at width s at)) scale nearness
 
 -- the value that was read, where one was
-abbrev pub ResultNear : ℕ → ℕ → List ℕ → ℕ → UnpackedF32 → Type 0
-ResultNear width scale s at (Got value next) = ScaledNear width scale s at value
-ResultNear width scale s at (Refused e) = Unit {0}
+abbrev pub ResultNear : ℕ → ℕ → List ℕ → ℕ → Result (Float × ℕ) DecodeError → Type 0
+ResultNear width scale s at (Ok (value, next)) = ScaledNear width scale s at value
+ResultNear width scale s at (Err e) = Unit {0}

@@ -12,23 +12,14 @@ ghost use Rattle.packer.specs.Packing.{written, PackIs};
 
 use refusals::{DecodeError, EncodeError};
 
-// A cast at an index would ask that the byte fits; here it is the function's own.
-fn wide(byte: u8) -> u32
-    ensures { result ≡ byte }
-{
-    byte as u32
-}
-
 // The big-endian number of the `width` bytes at `pos`.
 fn be(buf: &[u8], pos: usize, width: usize) -> u32
     requires { (width ≤ 4) × (pos + width ≤ length buf.now) }
     ensures { (result ≡ be_at buf.now pos width) × (result < 256 ^ width) }
 {
-    let mut number: u32 = 0;
-    let mut k: usize = 0;
-    while k < width {
-        number = number * 256 + wide(buf[pos + k]);
-        k += 1;
+    let mut number = 0u32;
+    for k in 0..width {
+        number = number * 256 + buf[pos + k] as u32;
     }
     number
 }
@@ -155,12 +146,10 @@ fn put_be(buf: &mut [u8], pos: usize, width: usize, number: u32)
     requires { pos + width ≤ length buf.old }
     ensures { buf.new ≡ written buf.old pos (big_endian width number) }
 {
-    let mut k = width;
     let mut rest = number;
-    while 0 < k {
-        k -= 1;
+    for k in (0..width).rev() {
         buf[pos + k] = (rest % 256) as u8;
-        rest = rest / 256;
+        rest /= 256;
     }
 }
 

@@ -17,17 +17,11 @@ loop-k-init c = (omega arith, refl, omega arith)
 pub overflow_mul-number : goal.overflow_mul-number
 overflow_mul-number c = omega (arith, small _ _ c.loop-k-test.true c.requires.0)
 
-pub overflow_add-pos : goal.overflow_add-pos
-overflow_add-pos c = omega arith
-
 pub bounds-buf-pos : goal.bounds-buf-pos
 bounds-buf-pos c = omega arith
 
-pub overflow_add-number : goal.overflow_add-number
-overflow_add-number c = omega (arith, small _ _ c.loop-k-test.true c.requires.0, c.type_inv.buf (c.args.pos + c.loop-k.k))
-
-pub overflow_add-k : goal.overflow_add-k
-overflow_add-k c = omega arith
+pub overflow_add-number-in-loop-k : goal.overflow_add-number-in-loop-k
+overflow_add-number-in-loop-k c = omega (arith, small _ _ c.loop-k-test.true c.requires.0, c.type_inv.buf (c.args.pos + c.loop-k.k))
 
 pub loop-k-smaller : goal.loop-k-smaller
 loop-k-smaller c = omega arith
