@@ -8,7 +8,7 @@ use native.Mathlib.Omega.{arith}
 use lib.ListN.{length, take, drop, set, length-append}
 use lib.Seq.{sets, sets-eq, length-sets, set_comm, drop-drop}
 use borrow.Author.Tests.{le-leb, lt-leb}
-use Rattle.refusals.specs.Refusals.{ok, refused, buffer_too_small}
+use Rattle.refusals.specs.Refusals.{ok, refused, encode_refusal, buffer_too_small}
 use Rattle.packer.specs.Numbers.{big_endian}
 use Rattle.packer.specs.Packing.{written, pack_answer, pack_after, PackIs}
 use Rattle.std.specs.Prelude.{Result, Ok, Err}
@@ -70,8 +70,11 @@ full-after : (bytes l : List ℕ) (at : ℕ) → length l < at + length bytes �
 unfolding pack_after
 full-after bytes l at h = rw (lt-leb (at + length bytes) (length l) h)
 
+pub full-refused : (bytes l : List ℕ) (at : ℕ) → length l < at + length bytes → (e : EncodeError) → encode_refusal e ≡ buffer_too_small → PackIs bytes l at (Err e) l
+full-refused bytes l at h e says = record { answer = ap refused says ∙ sym (full-answer bytes l at h); holds = sym (full-after bytes l at h) }
+
 pub full-packed : (bytes l : List ℕ) (at : ℕ) → length l < at + length bytes → PackIs bytes l at (Err BufferTooSmall) l
-full-packed bytes l at h = record { answer = sym (full-answer bytes l at h); holds = sym (full-after bytes l at h) }
+full-packed bytes l at h = full-refused bytes l at h BufferTooSmall refl
 
 -- ---- bytes copied to their place, which ends at `end`
 pub copied-packed : (bytes l part : List ℕ) (at end : ℕ) → end ≡ at + length bytes → end ≤ length l → part ≡ bytes
@@ -94,8 +97,9 @@ digits-packed width n l at after h e =
       holds = e ∙ sym (fits_after (big_endian width n) l at (omega arith));
     }
 
-pub no-digits-packed : (width n : ℕ) (l : List ℕ) (at : ℕ) → length l < at + width → PackIs (big_endian width n) l at (Err BufferTooSmall) l
-no-digits-packed width n l at h = full-packed (big_endian width n) l at (omega (arith, digits-length width n))
+pub no-digits-refused : (width n : ℕ) (l : List ℕ) (at : ℕ) → length l < at + width → (e : EncodeError) → encode_refusal e ≡ buffer_too_small
+    → PackIs (big_endian width n) l at (Err e) l
+no-digits-refused width n l at h e says = full-refused (big_endian width n) l at (omega (arith, digits-length width n)) e says
 
 -- ---- two writes, one after the other, are one write of the joined bytes: the answer, and what the slice holds where both fit
 as-sets : (bytes l : List ℕ) (at : ℕ) → at + length bytes ≤ length l → pack_after bytes l at ≡ sets l at bytes

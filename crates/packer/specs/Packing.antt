@@ -8,6 +8,10 @@ use Rattle.refusals.specs.declared.EncodeError.{EncodeError}
 unfoldable pub written : List ℕ → ℕ → List ℕ → List ℕ
 written l at bytes = take at l ++ bytes ++ drop (at + length bytes) l
 
+-- room for so many bytes at a place: where they end, or BufferTooSmall
+unfoldable pub room_at : ℕ → List ℕ → ℕ → Answer ℕ
+room_at width l at = cond (leb (at + width) (length l)) (ok (at + width)) (refused buffer_too_small)
+
 -- what writing the bytes at a place answers: the place after them, or BufferTooSmall where they don't fit
 unfoldable pub pack_answer : List ℕ → List ℕ → ℕ → Answer ℕ
 pack_answer bytes l at = cond (leb (at + length bytes) (length l)) (ok (at + length bytes)) (refused buffer_too_small)

@@ -1,12 +1,16 @@
 -- Reading at a position of a slice, document 01, "The envelope": "A read past the end of the slice is 1."
 -- What a reader returns is told by `consumed`.
-use Rattle.std.specs.Prelude.{◌≡◌, ℕ, ◌+◌, ◌^◌, ◌<◌, cond, List, leb, Result, Ok, Err, ℤ, Float, length, take, drop}
+use Rattle.std.specs.Prelude.{◌≡◌, ℕ, ◌+◌, ◌^◌, ◌<◌, cond, List, leb, Option, Some, None, Result, Ok, Err, ℤ, Float, length, take, drop}
 use Rattle.std.specs.Float.Ieee as Ieee
 use Rattle.std.specs.Float.{binary32}
 use Rattle.refusals.specs.Refusals.{Answer, ok, refused, incomplete_data}
 use Rattle.refusals.specs.declared.DecodeError.{DecodeError}
 use Rattle.floats.specs.Numbers.{over_scale}
 use Rattle.packer.specs.Numbers.{be_at, signed_of}
+
+-- the place after so many bytes at a place, if they lie among `len`
+abbrev pub end_within : ℕ → ℕ → ℕ → Option ℕ
+end_within len at width = cond (leb (at + width) len) (Some (at + width)) None
 
 -- what reading a value of so many bytes at a place answers: the value and the place after it, or IncompleteData
 unfoldable pub read_at : {A : Type 0} → ℕ → A → List ℕ → ℕ → Answer (A × ℕ)

@@ -2,13 +2,13 @@
 // their position stands here as functions of the slice and the position.
 #![tactic(auto)]
 
-ghost use Rattle.std.specs.Prelude.{◌≡◌, ◌+◌, ◌*◌, ◌%◌, ◌≤◌, ◌<◌, ◌^◌, length};
+ghost use Rattle.std.specs.Prelude.{◌≡◌, ◌+◌, ◌*◌, ◌%◌, ◌≤◌, ◌<◌, ◌^◌, length, IfOk};
 ghost use Rattle.std.specs.Int.Signed.{mag};
 ghost use Rattle.floats.specs.Numbers.{times_scale};
 ghost use Rattle.packer.specs.Numbers.{be_at, big_endian, signed_of, unsigned_of};
 ghost use Rattle.refusals.specs.Refusals.{consumed};
-ghost use Rattle.packer.specs.Unpacking.{unsigned_at, signed_at, scaled_at, float_at, uuid_at, NumberBelow};
-ghost use Rattle.packer.specs.Packing.{written, PackIs};
+ghost use Rattle.packer.specs.Unpacking.{end_within, consume_at, unsigned_at, signed_at, scaled_at, float_at, uuid_at, NumberBelow};
+ghost use Rattle.packer.specs.Packing.{written, packed, room_at, PackIs};
 
 use refusals::{DecodeError, EncodeError};
 
@@ -24,20 +24,37 @@ fn be(buf: &[u8], pos: usize, width: usize) -> u32
     number
 }
 
-// The number of the `width` bytes at `pos`, where they are there. `pos + width` might not fit, so
-// the width is taken off the length.
+// The place after `width` bytes at `pos`, if so many lie there among `len`.
+fn end_within(len: usize, pos: usize, width: usize) -> Option<usize>
+    ensures { result ≡ end_within len pos width }
+{
+    let end = pos.checked_add(width)?;
+    if end <= len { Some(end) } else { None }
+}
+
+// The place after the `width` bytes at `pos`, where they are there: the test of the Rust's `consume`.
+pub fn consume(buf: &[u8], pos: usize, width: usize) -> Result<usize, DecodeError>
+    ensures answer { consumed result ≡ consume_at width buf.now pos }
+    ensures inside { IfOk result (λ next. (next ≡ pos + width) × (next ≤ length buf.now)) }
+{
+    end_within(buf.len(), pos, width).ok_or(DecodeError::IncompleteData)
+}
+
+// The place after `width` bytes that are to be written at `pos`, where there is room for them.
+pub fn reserve(buf: &[u8], pos: usize, width: usize) -> Result<usize, EncodeError>
+    ensures answer { packed result ≡ room_at width buf.now pos }
+    ensures inside { IfOk result (λ end. (end ≡ pos + width) × (end ≤ length buf.now)) }
+{
+    end_within(buf.len(), pos, width).ok_or(EncodeError::BufferTooSmall)
+}
+
+// The number of the `width` bytes at `pos`, where they are there.
 fn unpack_be(buf: &[u8], pos: usize, width: usize) -> Result<(u32, usize), DecodeError>
     requires { width ≤ 4 }
     ensures { (consumed result ≡ unsigned_at width buf.now pos) × NumberBelow (256 ^ width) result }
 {
-    let len = buf.len();
-    if len < width {
-        return Err(DecodeError::IncompleteData);
-    }
-    if len - width < pos {
-        return Err(DecodeError::IncompleteData);
-    }
-    Ok((be(buf, pos, width), pos + width))
+    let next = consume(buf, pos, width)?;
+    Ok((be(buf, pos, width), next))
 }
 
 // The two's complement reading of a number below 2 * `half`: `half` is the weight of its sign.
@@ -127,15 +144,8 @@ pub fn unpack_f32_auto(buf: &[u8], pos: usize) -> Result<(f32, usize), DecodeErr
 pub fn unpack_uuid(buf: &[u8], pos: usize) -> Result<([u8; 12], usize), DecodeError>
     ensures { consumed result ≡ uuid_at buf.now pos }
 {
-    let len = buf.len();
-    if len < 12 {
-        return Err(DecodeError::IncompleteData);
-    }
-    if len - 12 < pos {
-        return Err(DecodeError::IncompleteData);
-    }
+    let next = consume(buf, pos, 12)?;
     let mut bytes = [0u8; 12];
-    let next = pos + 12;
     bytes.copy_from_slice(&buf[pos..next]);
     Ok((bytes, next))
 }
@@ -157,15 +167,9 @@ fn put_be(buf: &mut [u8], pos: usize, width: usize, number: u32)
 pub fn pack_be(buf: &mut [u8], pos: usize, width: usize, number: u32) -> Result<usize, EncodeError>
     ensures { PackIs (big_endian width number) buf.old pos result buf.new }
 {
-    let room = buf.len();
-    if room < width {
-        return Err(EncodeError::BufferTooSmall);
-    }
-    if room - width < pos {
-        return Err(EncodeError::BufferTooSmall);
-    }
+    let end = reserve(buf, pos, width)?;
     put_be(buf, pos, width, number);
-    Ok(pos + width)
+    Ok(end)
 }
 
 // The bits of a signed number as an unsigned one; `last` is the largest of that width.
@@ -234,15 +238,7 @@ pub fn pack_f32(buf: &mut [u8], pos: usize, value: f32, scale: f32) -> Result<us
 pub fn pack_bytes(buf: &mut [u8], pos: usize, part: &[u8]) -> Result<usize, EncodeError>
     ensures { PackIs part.now buf.old pos result buf.new }
 {
-    let room = buf.len();
-    let len = part.len();
-    if room < len {
-        return Err(EncodeError::BufferTooSmall);
-    }
-    if room - len < pos {
-        return Err(EncodeError::BufferTooSmall);
-    }
-    let end = pos + len;
+    let end = reserve(buf, pos, part.len())?;
     buf[pos..end].copy_from_slice(part);
     Ok(end)
 }

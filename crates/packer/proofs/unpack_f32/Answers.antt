@@ -15,6 +15,6 @@ returns-in_err-raw c =
     rw passed (not_made (λ (raw : ℤ). over_scale raw c.args.scale) _ _ _ _ _ (c.in_err-raw.ensures))
 
 pub returns : goal.returns
-returns c = 
+returns c =
     let same : to_z w32 (of_z w32 c.in_ok-raw.raw) ≡ c.in_ok-raw.raw = search rules in
     made (λ (raw : ℤ). over_scale raw c.args.scale) _ _ _ _ _ _ _ (c.scaled.ensures ∙ ap (λ (raw : ℤ). over_scale raw c.args.scale) same) c.in_ok-raw.ensures

@@ -1,14 +1,18 @@
 -- `packer::unpack_uuid` meets its contract.
-use mathlib.Core.Path.{sym, ◌∙◌}
+use mathlib.Core.Path.{◌≡◌, sym}
+use native.Mathlib.Omega.{arith}
 use borrow.Author.Rules.{rules}
-use Rattle.packer.proofs.Places.{got, lacking, copied-twelve}
+use Rattle.std.specs.Prelude.{Err}
+use Rattle.packer.proofs.Places.{got, lacking, copied-twelve, not_there}
 use Rattle.packer.proofs.unpack_uuid.Goals as goal
 
-pub returns-then-len-lt12 : goal.returns-then-len-lt12
-returns-then-len-lt12 c = sym (lacking _ _ _ _ (search rules))
-
-pub returns-then-len-pos : goal.returns-then-len-pos
-returns-then-len-pos c = sym (lacking _ _ _ _ (search rules))
+pub returns-in_err-next : goal.returns-in_err-next
+returns-in_err-next c =
+    let passed : c.from_residual.result ≡ Err c.in_err-next.field-0.0 = search rules in
+    let out = not_there c.in_err-next.ensures.answer in
+    rw (passed, out.says) (sym (lacking _ _ _ _ out.lacks))
 
 pub returns : goal.returns
-returns c = rw (c.copy_from_slice.ensures.after, copied-twelve c.args.buf.now c.args.pos) (sym (got _ _ _ _ (search rules)))
+returns c =
+    let ends = c.in_ok-next.ensures.inside in
+    rw (c.copy_from_slice.ensures.after, ends.0, copied-twelve c.args.buf.now c.args.pos) (sym (got _ _ _ _ (omega (arith, ends.0, ends.1))))
