@@ -17,30 +17,30 @@ pub enum DecodeError {
 // Why a buffer is not written.
 #[derive(Clone, Copy, Debug, PartialEq, Eq)]
 pub enum EncodeError {
-    BufferTooSmall,
-    PayloadTooLong,
+    BufferTooSmall = 5,
+    PayloadTooLong = 6,
 }
 
 // Why a command that was read is not written back.
 #[derive(Clone, Copy, Debug, PartialEq, Eq)]
 pub enum WriteBackError {
-    InvalidFrame,
-    PayloadTooLong,
-    BufferTooSmall,
+    InvalidFrame = 2,
+    PayloadTooLong = 6,
+    BufferTooSmall = 5,
 }
 
 // Why a reply is not written.
 #[derive(Clone, Copy, Debug, PartialEq, Eq)]
 pub enum ReplyWriteError {
-    UnknownMaskBits,
-    BadName,
-    BufferTooSmall,
+    UnknownMaskBits = 8,
+    BadName = 7,
+    BufferTooSmall = 5,
 }
 
 // Why the gateway feed takes nothing.
 #[derive(Clone, Copy, Debug, PartialEq, Eq)]
 pub enum FeedError {
-    NotDrained,
+    NotDrained = 15,
 }
 
 impl DecodeError {
@@ -65,10 +65,7 @@ impl EncodeError {
     pub fn number(self) -> u8
         ensures { result ≡ (encode_refusal self).number }
     {
-        match self {
-            EncodeError::BufferTooSmall => 5,
-            EncodeError::PayloadTooLong => 6,
-        }
+        self as u8 // 5 or 6
     }
 }
 
@@ -77,11 +74,7 @@ impl WriteBackError {
     pub fn number(self) -> u8
         ensures { result ≡ (write_back_refusal self).number }
     {
-        match self {
-            WriteBackError::InvalidFrame => 2,
-            WriteBackError::PayloadTooLong => 6,
-            WriteBackError::BufferTooSmall => 5,
-        }
+        self as u8
     }
 }
 
@@ -90,11 +83,7 @@ impl ReplyWriteError {
     pub fn number(self) -> u8
         ensures { result ≡ (reply_write_refusal self).number }
     {
-        match self {
-            ReplyWriteError::UnknownMaskBits => 8,
-            ReplyWriteError::BadName => 7,
-            ReplyWriteError::BufferTooSmall => 5,
-        }
+        self as u8
     }
 }
 
@@ -103,9 +92,7 @@ impl FeedError {
     pub fn number(self) -> u8
         ensures { result ≡ (feed_refusal self).number }
     {
-        match self {
-            FeedError::NotDrained => 15,
-        }
+        self as u8
     }
 }
 
