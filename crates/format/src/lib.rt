@@ -4,10 +4,14 @@
 #![tactic(auto)]
 
 ghost use Rattle.std.specs.Prelude.{◌≡◌};
+ghost use Rattle.refusals.specs.Refusals.{consumed};
 ghost use Rattle.format.specs.Format.{numbers};
+ghost use Rattle.format.specs.Ids.{id_named};
+
+use refusals::DecodeError;
 
 // The first byte of each command and reply.
-#[derive(Clone, Copy)]
+#[derive(Clone, Copy, Debug, PartialEq, Eq)]
 pub enum CommandId {
     FwVersion = 0,
     GetValues = 4,
@@ -31,20 +35,80 @@ pub enum CommandId {
     MotorEstop = 159,
 }
 
-// The ids of the seven replies as constants, because a match takes no cast.
+// The ids as constants, because a match takes no cast.
 pub const FW_VERSION: u8 = CommandId::FwVersion as u8;
 
 pub const GET_VALUES: u8 = CommandId::GetValues as u8;
+
+pub const SET_DUTY: u8 = CommandId::SetDuty as u8;
+
+pub const SET_CURRENT: u8 = CommandId::SetCurrent as u8;
+
+pub const SET_CURRENT_BRAKE: u8 = CommandId::SetCurrentBrake as u8;
+
+pub const SET_RPM: u8 = CommandId::SetRpm as u8;
+
+pub const SET_POS: u8 = CommandId::SetPos as u8;
+
+pub const SET_HANDBRAKE: u8 = CommandId::SetHandbrake as u8;
+
+pub const REBOOT: u8 = CommandId::Reboot as u8;
+
+pub const ALIVE: u8 = CommandId::Alive as u8;
+
+pub const FORWARD_CAN: u8 = CommandId::ForwardCan as u8;
 
 pub const GET_VALUES_SELECTIVE: u8 = CommandId::GetValuesSelective as u8;
 
 pub const GET_VALUES_SETUP_SELECTIVE: u8 = CommandId::GetValuesSetupSelective as u8;
 
+pub const SET_CURRENT_REL: u8 = CommandId::SetCurrentRel as u8;
+
+pub const SET_ODOMETER: u8 = CommandId::SetOdometer as u8;
+
 pub const GET_STATS: u8 = CommandId::GetStats as u8;
 
 pub const RESET_STATS: u8 = CommandId::ResetStats as u8;
 
+pub const SHUTDOWN: u8 = CommandId::Shutdown as u8;
+
 pub const FW_INFO: u8 = CommandId::FwInfo as u8;
+
+pub const MOTOR_ESTOP: u8 = CommandId::MotorEstop as u8;
+
+// The command that has an id.
+impl TryFrom<u8> for CommandId {
+    type Error = DecodeError;
+
+    ghost try_from_gives = { λ byte result. consumed result ≡ id_named byte };
+
+    #[tactic(auto, unfolding(crate::specs::Ids::id_among))]
+    fn try_from(byte: u8) -> Result<CommandId, DecodeError> {
+        match byte {
+            FW_VERSION => Ok(CommandId::FwVersion),
+            GET_VALUES => Ok(CommandId::GetValues),
+            SET_DUTY => Ok(CommandId::SetDuty),
+            SET_CURRENT => Ok(CommandId::SetCurrent),
+            SET_CURRENT_BRAKE => Ok(CommandId::SetCurrentBrake),
+            SET_RPM => Ok(CommandId::SetRpm),
+            SET_POS => Ok(CommandId::SetPos),
+            SET_HANDBRAKE => Ok(CommandId::SetHandbrake),
+            REBOOT => Ok(CommandId::Reboot),
+            ALIVE => Ok(CommandId::Alive),
+            FORWARD_CAN => Ok(CommandId::ForwardCan),
+            GET_VALUES_SELECTIVE => Ok(CommandId::GetValuesSelective),
+            GET_VALUES_SETUP_SELECTIVE => Ok(CommandId::GetValuesSetupSelective),
+            SET_CURRENT_REL => Ok(CommandId::SetCurrentRel),
+            SET_ODOMETER => Ok(CommandId::SetOdometer),
+            GET_STATS => Ok(CommandId::GetStats),
+            RESET_STATS => Ok(CommandId::ResetStats),
+            SHUTDOWN => Ok(CommandId::Shutdown),
+            FW_INFO => Ok(CommandId::FwInfo),
+            MOTOR_ESTOP => Ok(CommandId::MotorEstop),
+            _ => Err(DecodeError::UnknownPacket { id: byte }),
+        }
+    }
+}
 
 // A frame's first byte, and its last.
 pub const FRAME_START_SHORT: u8 = 2;
@@ -56,6 +120,9 @@ pub const PAYLOAD_AT: usize = 2;
 
 // What a frame adds to its payload: the start, length and end bytes, and two of the sum.
 pub const FRAME_EXTRA: usize = 5;
+
+// What stands behind the payload: two bytes of the sum, and the end byte.
+pub const BEHIND_PAYLOAD: usize = FRAME_EXTRA - PAYLOAD_AT;
 
 // The most that a length byte can say.
 pub const PAYLOAD_MAX: usize = 255;
