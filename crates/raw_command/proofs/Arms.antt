@@ -1,26 +1,17 @@
 -- The arms of `command_of`: the value that each reads is the one that its form says.
-use mathlib.Core.Bool.{Bool, false, false≢true}
-use mathlib.Core.Path.{◌≡◌, sym, ◌∙◌}
+use mathlib.Core.Bool.{Bool}
+use mathlib.Core.Path.{◌≡◌}
 use mathlib.Core.List.{List}
-use Prim.Native.Nat.{ℕ, ◌+◌, ◌/◌, ◌%◌, ◌<◌}
+use Prim.Native.Nat.{ℕ, ◌/◌, ◌%◌, ◌<◌}
 use native.Mathlib.Omega.{arith}
 use lib.Dec.{eqb}
-use lib.ListN.{length, get_or}
+use lib.ListN.{get_or}
 use Rattle.format.specs.declared.CommandId.{CommandId}
-use Rattle.format.specs.declared.CommandId.TheVariants.{ForwardCan}
 use Rattle.packer.specs.Numbers.{be_at}
 use Rattle.raw_command.specs.Commands.{form_of, width_of, Plain}
-use Rattle.raw_command.specs.Reading.{is_forward, numbered}
-
--- ForwardCan does not come here
-pub no_arm : {A : Type 0} {id : CommandId} → id ≡ ForwardCan → is_forward id ≡ false → A
-no_arm is plainly = absurd (false≢true (sym plainly ∙ rw is))
+use Rattle.raw_command.specs.Reading.{numbered}
 
 module _ (bytes : List ℕ) where
-  -- the bytes behind the id are there
-  pub there : {id known : CommandId} → id ≡ known → length bytes ≡ 1 + width_of (form_of id) → length bytes ≡ 1 + width_of (form_of known)
-  there is size = rw (← is) size
-
   pub arm : {id known : CommandId} {plain : Plain} → id ≡ known → plain ≡ numbered known (be_at bytes 1 (width_of (form_of known)))
       → plain ≡ numbered id (be_at bytes 1 (width_of (form_of id)))
   arm is made = rw is made

@@ -10,6 +10,7 @@ use borrow.Author.Tests.{eq-eqb, lt-ltb, eqb-true, not-true}
 use Rattle.refusals.specs.Refusals.{ok, invalid_frame}
 use Rattle.refusals.proofs.Answers.{given-same, given-then, given-unless}
 use Rattle.format.specs.Format.{id_of, all_ids}
+use Rattle.format.specs.Ids.{id_named}
 use Rattle.format.specs.declared.CommandId.{CommandId}
 use Rattle.format.specs.declared.CommandId.TheVariants as id
 use Rattle.packer.specs.Numbers.{be_at, big_endian}
@@ -19,10 +20,10 @@ use Rattle.packer.proofs.Standing.{one, joined, second, in-front}
 use Rattle.packer.proofs.Digits as digits
 use Rattle.packer.proofs.Writes.{digits-length}
 use Rattle.raw_command.specs.Commands.{Form, Value, form_of, width_of, most_of, Plain, width_in, number_in, bytes_in}
-use Rattle.raw_command.specs.Reading.{id_named, is_forward, at_most, numbered, plain_with, plain_in}
+use Rattle.raw_command.specs.Reading.{is_forward, at_most, numbered, plain_with, plain_in}
 use Rattle.raw_command.specs.Laws.{Fits, RawLaws}
 use Rattle.raw_command.proofs.Sizes.{narrow}
-use Rattle.raw_command.proofs.Ids.{id-back, id-given}
+use Rattle.format.proofs.Ids.{id-back, id-given}
 use Rattle.raw_command.proofs.Values.{number-below, value-back, value-allowed, number-back}
 
 -- ---- what is written is read

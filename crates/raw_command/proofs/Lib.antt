@@ -1,6 +1,5 @@
 pub mod Sizes
 pub mod Packing
-pub mod Ids
 pub mod Values
 pub mod Behind
 pub mod Arms

@@ -1,21 +1,23 @@
 -- The order of judging a plain command: one law for each way out of `unpack_value` and `unpack_command`, from the tests that lead there.
-use mathlib.Core.Bool.{true, false, not}
+use mathlib.Core.Bool.{Bool, true, false, not}
 use mathlib.Core.Path.{◌≡◌, sym, ◌∙◌}
 use mathlib.Core.List.{List}
-use Prim.Native.Nat.{ℕ, ◌+◌, ◌≤◌, ◌<◌}
+use Prim.Native.Nat.{ℕ, ◌+◌, ◌-◌, ◌≤◌, ◌<◌}
 use native.Mathlib.Omega.{arith}
 use lib.Dec.{eqb, ltb}
-use lib.ListN.{length, get_or, drop}
+use lib.ListN.{length, get_or, take, drop, length-drop}
+use lib.Seq.{take_all}
 use borrow.Author.Tests.{eq-eqb, ne_eqb, lt-ltb, le-ltb}
-use Rattle.refusals.specs.Refusals.{ok, refused, invalid_frame, unknown_packet}
+use Rattle.refusals.specs.Refusals.{Refusal, ok, refused, invalid_frame}
 use Rattle.refusals.proofs.Answers.{Known, known-given, known-then, known-unless}
 use Rattle.format.specs.Format.{all_ids}
+use Rattle.format.specs.Ids.{id_named}
 use Rattle.format.specs.declared.CommandId.{CommandId}
 use Rattle.packer.specs.Numbers.{be_at}
 use Rattle.raw_command.specs.Commands.{form_of, width_of, most_of}
-use Rattle.raw_command.specs.Reading.{id_named, is_forward, at_most, numbered, plain_with, plain_in}
+use Rattle.raw_command.specs.Reading.{is_forward, at_most, numbered, plain_with, plain_in}
 use Rattle.raw_command.specs.declared.Carried.{Carried}
-use Rattle.raw_command.proofs.Ids.{id-given, id-known}
+use Rattle.format.proofs.Ids.{id-given, id-known}
 
 -- ---- behind the id
 
@@ -24,14 +26,21 @@ module _ (id : CommandId) (bytes : List ℕ) (carried : Carried) (says : (carrie
   unfolding plain_with
   size-wrong differs = rw (← says.0, ne_eqb (length bytes) (1 + carried.width) differs)
 
-  module _ (size : length bytes ≡ 1 + carried.width) where
-    pub byte-wrong : at_most carried.most (drop 1 bytes) ≡ false → refused invalid_frame ≡ plain_with id bytes
-    unfolding plain_with
-    byte-wrong over = rw (← says.0, ← says.1, eq-eqb (length bytes) (1 + carried.width) size, over)
+  -- the bytes behind the id are tested as a part that is lent
+  module _ (size : length bytes ≡ 1 + carried.width) {under : Bool} (tested : under ≡ at_most carried.most (take (length bytes - 1) (drop 1 bytes))) where
+    lent : take (length bytes - 1) (drop 1 bytes) ≡ drop 1 bytes
+    lent = take_all (length bytes - 1) (drop 1 bytes) (omega (arith, length-drop 1 bytes))
 
-    pub value-right : at_most carried.most (drop 1 bytes) ≡ true → ok (numbered id (be_at bytes 1 (width_of (form_of id)))) ≡ plain_with id bytes
+    test-of : under ≡ at_most (most_of (form_of id)) (drop 1 bytes)
+    test-of = tested ∙ rw (lent, says.1)
+
+    pub byte-wrong : under ≡ false → refused invalid_frame ≡ plain_with id bytes
     unfolding plain_with
-    value-right under = rw (eq-eqb (length bytes) (1 + width_of (form_of id)) (size ∙ rw says.0), ← says.1, under)
+    byte-wrong over = rw (← says.0, eq-eqb (length bytes) (1 + carried.width) size, ← test-of, over)
+
+    pub value-right : under ≡ true → ok (numbered id (be_at bytes 1 (width_of (form_of id)))) ≡ plain_with id bytes
+    unfolding plain_with
+    value-right allowed = rw (eq-eqb (length bytes) (1 + width_of (form_of id)) (size ∙ rw says.0), ← test-of, allowed)
 
 -- ---- from the left
 
@@ -46,7 +55,7 @@ module _ (bytes : List ℕ) where
     a-hop hop = rw (lt-ltb 0 (length bytes) some, eq-eqb (get_or bytes 0 0) 34 hop)
 
     module _ (no-hop : get_or bytes 0 0 ≡ 34 → ⊥) where
-      pub unknown : refused (unknown_packet (get_or bytes 0 0)) ≡ id_named (get_or bytes 0 0) → refused (unknown_packet (get_or bytes 0 0)) ≡ plain_in bytes
+      pub unknown : {why : Refusal} → refused why ≡ id_named (get_or bytes 0 0) → refused why ≡ plain_in bytes
       unfolding plain_in
       unknown named = rw (lt-ltb 0 (length bytes) some, ne_eqb (get_or bytes 0 0) 34 no-hop, ← named)
 

@@ -6,10 +6,12 @@ use native.Mathlib.Omega.{arith}
 use lib.ListN.{length}
 use Rattle.packer.specs.Numbers.{big_endian}
 use Rattle.packer.specs.Packing.{PackIs}
+use Rattle.std.specs.Prelude.{Result, Ok, Err}
+use Rattle.refusals.specs.declared.EncodeError.{EncodeError}
 use Rattle.refusals.specs.declared.EncodeError.TheVariants.{BufferTooSmall}
-use Rattle.packer.specs.declared.Packed.{Packed}
-use Rattle.packer.specs.declared.Packed.TheVariants.{Refused}
-use Rattle.packer.proofs.Writes.{byte, digits-length, full-packed, two-packs}
+use Rattle.refusals.proofs.Different.{none}
+use Rattle.refusals.proofs.Answers.{given-same}
+use Rattle.packer.proofs.Writes.{byte, digits-length, fits-answer, full-packed, two-packs}
 use Rattle.raw_command.specs.Commands.{form_of, plain_of, id_in, width_in, number_in, bytes_of, PartsIs, parts_bytes}
 use Rattle.raw_command.specs.declared.RawCommand.{RawCommand}
 use Rattle.raw_command.specs.declared.Parts.{Parts}
@@ -34,14 +36,31 @@ made {command} {known} {r} is sent same fits =
 pub parts-bytes : (command : RawCommand) (parts : Parts) → PartsIs command parts → parts_bytes parts ≡ bytes_of command
 parts-bytes command parts is = rw (is.id, is.width, is.number)
 
--- the id, and then the number, are the bytes of the parts
+-- ---- a write with room for it is not refused, and ends behind its bytes
+
+module _ {bytes l after : List ℕ} {at : ℕ} (room : at + length bytes ≤ length l) where
+  pub ends-behind : {next : ℕ} → PackIs bytes l at (Ok next) after → next ≡ at + length bytes
+  ends-behind w = given-same (w.answer ∙ fits-answer bytes l at room)
+
+  pub never-refused : {A : Type 0} {error : EncodeError} → PackIs bytes l at (Err error) after → A
+  never-refused w = let fits = fits-answer bytes l at room in let e = w.answer in none (cc)
+
+-- ---- the id, and then the number, are the bytes of the parts
+
+pub id-room : (id : ℕ) (l : List ℕ) (at : ℕ) → at + 1 ≤ length l → at + length (big_endian 1 id) ≤ length l
+id-room id l at room = omega (arith, digits-length 1 id)
+
 pub parts-packed
-    : {l m after : List ℕ} {at : ℕ} {r s : Packed} (parts : Parts) → parts.id < 256
-    → at + 1 + parts.width ≤ length l → PackIs (big_endian 1 parts.id) l at r m
-    → PackIs (big_endian parts.width parts.number) m (at + 1) s after → PackIs (parts_bytes parts) l at s after
-parts-packed parts small room w v =
-    two-packs {p = parts.id ∷ []} {q = big_endian parts.width parts.number} (omega (arith, digits-length parts.width parts.number)) (rw (byte parts.id small) at w) v
+    : {l m after : List ℕ} {at next : ℕ} {s : Result ℕ EncodeError} (parts : Parts) → parts.id < 256
+    → at + 1 + parts.width ≤ length l → PackIs (big_endian 1 parts.id) l at (Ok next) m
+    → PackIs (big_endian parts.width parts.number) m next s after → PackIs (parts_bytes parts) l at s after
+parts-packed {l} {m} {after} {at} {next} {s} parts small room w v =
+    let behind = ends-behind (id-room parts.id l at (omega arith)) w in
+    let size = digits-length 1 parts.id in
+    let here : next ≡ at + 1 = omega arith in
+    two-packs {p = parts.id ∷ []} {q = big_endian parts.width parts.number} (omega (arith, digits-length parts.width parts.number))
+    (rw (byte parts.id small) at w) (rw here at v)
 
 -- where they do not fit, nothing is written
-pub parts-no-room : (parts : Parts) (l : List ℕ) (at : ℕ) → length l < at + 1 + parts.width → PackIs (parts_bytes parts) l at (Refused BufferTooSmall) l
+pub parts-no-room : (parts : Parts) (l : List ℕ) (at : ℕ) → length l < at + 1 + parts.width → PackIs (parts_bytes parts) l at (Err BufferTooSmall) l
 parts-no-room parts l at h = full-packed (parts_bytes parts) l at (omega (arith, digits-length parts.width parts.number))

@@ -1,25 +1,22 @@
 -- What the functions promise leaves one answer: the maps lose nothing.
 use mathlib.Core.Bool.{false}
 use mathlib.Core.Path.{◌≡◌, refl, ap, sym, subst, ◌∙◌}
-use Prim.Native.Nat.{ℕ}
 use native.Mathlib.Omega.{arith}
 use borrow.Author.Tests.{ne_eqb}
-use Rattle.refusals.specs.Refusals.{Answer, ok, refused}
 use Rattle.refusals.specs.OneAnswer.{ToldApart}
-use Rattle.refusals.proofs.Unique.{told-apart, read_back, decode-back}
+use Rattle.refusals.proofs.Different.{none}
+use Rattle.refusals.proofs.Answers.{given-same}
+use Rattle.refusals.proofs.Unique.{told-apart, decode_back, decode-back}
+use Rattle.std.specs.Prelude.{Ok, Err}
 use Rattle.format.specs.Format.{id_of}
 use Rattle.format.specs.declared.CommandId.{CommandId}
 use Rattle.format.specs.declared.CommandId.TheVariants as id
 use Rattle.raw_command.specs.Commands.{Plain, Value, form_of, plain_of}
 use Rattle.format.proofs.Ids.{ids-apart}
-use Rattle.raw_command.specs.Reading.{is_forward, identified, unpacked_command}
+use Rattle.raw_command.specs.Reading.{is_forward, unpacked_command}
 use Rattle.raw_command.specs.Laws.{OneAnswer}
 use Rattle.raw_command.specs.declared.RawCommand.{RawCommand}
 use Rattle.raw_command.specs.declared.RawCommand.TheVariants as raw
-use Rattle.raw_command.specs.declared.Identified.{Identified}
-use Rattle.raw_command.specs.declared.Identified.TheVariants.{Known, Unknown}
-use Rattle.raw_command.specs.declared.UnpackedCommand.{UnpackedCommand}
-use Rattle.raw_command.specs.declared.UnpackedCommand.TheVariants.{Got, Refused}
 
 -- the command with an id and a value; FwVersion, a filler, for ForwardCan
 command_with : (id : CommandId) → Value (form_of id) → RawCommand
@@ -87,24 +84,15 @@ never-forward command =
 plain-apart : ToldApart plain_of
 plain-apart = told-apart plain_of command_back command-back
 
-identified_back : Answer CommandId → Identified
-identified_back (ok id) = Known id
-identified_back (refused why) = Unknown
-
-identified-back : (byte : ℕ) (a : Identified) → identified_back (identified byte a) ≡ a
-unfolding identified_back
-identified-back byte (Known id) = refl
-identified-back byte Unknown = refl
-
-unpacked-back : (a : UnpackedCommand) → read_back (λ plain. Got (command_back plain)) Refused (unpacked_command a) ≡ a
-unfolding read_back
-unpacked-back (Got command) = ap Got (command-back command)
-unpacked-back (Refused e) = ap Refused (decode-back e)
+unpacked-apart : ToldApart unpacked_command
+unpacked-apart (Ok command) (Ok other) e = ap Ok (plain-apart command other (given-same e))
+unpacked-apart (Ok command) (Err other) e = none (cc)
+unpacked-apart (Err error) (Ok other) e = none (cc)
+unpacked-apart (Err error) (Err other) e = ap Err (sym (decode-back error) ∙ ap decode_back (cc) ∙ decode-back other)
 
 pub one_answer : OneAnswer
 one_answer =
     record {
       plain = plain-apart;
-      command-ids = λ byte. told-apart (identified byte) identified_back (identified-back byte);
-      unpack-command = told-apart unpacked_command (read_back (λ plain. Got (command_back plain)) Refused) unpacked-back;
+      unpack-command = unpacked-apart;
     }

@@ -5,7 +5,7 @@ use Rattle.refusals.specs.Refusals.{ok}
 use Rattle.refusals.specs.OneAnswer.{ToldApart}
 use Rattle.packer.specs.Nearness.{Bytes}
 use Rattle.raw_command.specs.Commands.{Form, bare, flag, flags, half, word, signed, Value, form_of, width_of, Plain, plain_of, bytes_in}
-use Rattle.raw_command.specs.Reading.{is_forward, plain_in, identified, unpacked_command}
+use Rattle.raw_command.specs.Reading.{is_forward, plain_in, unpacked_command}
 
 -- The numbers of a value fit their type, as those of every `RawCommand` of the code do: a command of the logic may hold any numbers
 abbrev pub Fits : (form : Form) → Value form → Type 0
@@ -28,5 +28,4 @@ pub record RawLaws : Type 0 where
 
 pub record OneAnswer : Type 0 where
   pub plain : ToldApart plain_of
-  pub command-ids : (byte : ℕ) → ToldApart (identified byte)
   pub unpack-command : ToldApart unpacked_command

@@ -1,30 +1,16 @@
 -- What bytes are as a plain command: document 02, W2. "An empty, short or overlong payload and a flag byte above 1 are InvalidFrame. Refusals: .. 3 (an id not in
 -- `CommandId`) or 2 by the first trouble".
-use Rattle.std.specs.Prelude.{Bool, true, ◌&&◌, not, List, [], ◌∷◌, cond, ℕ, ◌+◌, ◌/◌, ◌%◌, ◌^◌, eqb, leb, ltb, length, get_or, drop}
-use Rattle.refusals.specs.Refusals.{Answer, ok, refused, decode_refusal, invalid_frame, unknown_packet}
+use Rattle.std.specs.Prelude.{Bool, true, ◌&&◌, not, List, [], ◌∷◌, ℕ, Result, Ok, Err, ◌+◌, ◌/◌, ◌%◌, ◌^◌, eqb, leb, ltb, length, get_or, drop}
+use Rattle.refusals.specs.Refusals.{Answer, ok, refused, decode_refusal, invalid_frame}
 use Rattle.refusals.specs.Answers.{and_then, unless}
-use Rattle.format.specs.Format.{id_of, all_ids}
+use Rattle.refusals.specs.declared.DecodeError.{DecodeError}
+use Rattle.format.specs.Format.{id_of}
+use Rattle.format.specs.Ids.{id_named}
 use Rattle.format.specs.declared.CommandId.{CommandId}
 use Rattle.format.specs.declared.CommandId.TheVariants.{ForwardCan}
 use Rattle.packer.specs.Numbers.{be_at, signed_of}
 use Rattle.raw_command.specs.Commands.{Form, bare, flag, flags, half, word, signed, Value, form_of, width_of, most_of, Plain, plain_of}
-use Rattle.raw_command.specs.declared.UnpackedCommand.{UnpackedCommand}
-use Rattle.raw_command.specs.declared.UnpackedCommand.TheVariants.{Got, Refused}
-use Rattle.raw_command.specs.declared.Identified.{Identified}
-use Rattle.raw_command.specs.declared.Identified.TheVariants as i
-
--- the command with this id, among those of a list; "3 (an id not in `CommandId`)"
-unfoldable pub id_among : List CommandId → ℕ → Answer CommandId
-id_among [] byte = refused (unknown_packet byte)
-id_among (id ∷ ids) byte = cond (eqb byte (id_of id)) (ok id) (id_among ids byte)
-
-abbrev pub id_named : ℕ → Answer CommandId
-id_named byte = id_among all_ids byte
-
--- what `command_id` says of a byte
-abbrev pub identified : ℕ → Identified → Answer CommandId
-identified byte (i.Known id) = ok id
-identified byte i.Unknown = refused (unknown_packet byte)
+use Rattle.raw_command.specs.declared.RawCommand.{RawCommand}
 
 -- the id of a hop: "34 and id by turns"
 abbrev pub is_forward : CommandId → Bool
@@ -63,6 +49,6 @@ plain_in bytes =
     (and_then (id_named (get_or bytes 0 0)) (λ id. plain_with id bytes)))
 
 -- what `unpack_command` says
-abbrev pub unpacked_command : UnpackedCommand → Answer Plain
-unpacked_command (Got command) = ok (plain_of command)
-unpacked_command (Refused e) = refused (decode_refusal e)
+abbrev pub unpacked_command : Result RawCommand DecodeError → Answer Plain
+unpacked_command (Ok command) = ok (plain_of command)
+unpacked_command (Err e) = refused (decode_refusal e)

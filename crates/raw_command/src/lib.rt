@@ -1,19 +1,19 @@
 // Plain commands with the whole numbers that are sent: to bytes of a payload and back, with no float. Ports
-// `CommandId::try_from` and `Command::pack_into` of src/command.rs; document 01, "Commands", and document 02, W2.
+// `Command::pack_into` of src/command.rs; document 01, "Commands", and document 02, W2.
 #![tactic(auto)]
 
-ghost use Rattle.std.specs.Prelude.{◌≡◌, false, ◌+◌, ◌≤◌, ◌<◌, eqb, length, get_or, drop};
+ghost use Rattle.std.specs.Prelude.{◌≡◌, false, ◌+◌, ◌≤◌, ◌<◌, eqb, length, get_or, ◌↔◌, IsTrue, EachIndex, slice_index};
 ghost use Rattle.packer.specs.Numbers.{be_at, signed_of};
 ghost use Rattle.packer.specs.Packing.{PackIs};
 ghost use Rattle.raw_command.specs.Commands.{form_of, width_of, most_of, flag_byte, plain_of, PartsIs, parts_bytes};
-ghost use Rattle.raw_command.specs.Reading.{id_named, identified, is_forward, at_most, numbered, plain_with, plain_in, unpacked_command};
+ghost use Rattle.raw_command.specs.Reading.{is_forward, numbered, plain_with, plain_in, unpacked_command};
 
 use format::CommandId;
 use refusals::{DecodeError, EncodeError};
 
 // A plain command with the whole number that is sent. `command::Command` has the values of a caller; `command::raw_of`
 // turns them into these.
-#[derive(Clone, Copy)]
+#[derive(Clone, Copy, Debug, PartialEq, Eq)]
 pub enum RawCommand {
     FwVersion,
     GetValues,
@@ -44,8 +44,6 @@ pub struct Parts {
     pub number: u32,
 }
 
-// What `unpack_command` returns: the command, or the refusal.
-// Which command has an id, if any.
 // What follows an id: `width` bytes, none above `most`.
 #[derive(Clone, Copy)]
 struct Carried {
@@ -63,7 +61,7 @@ fn sent(id: u8, width: usize, number: u32) -> Parts
 fn flag(set: bool) -> u32
     ensures { (result ≡ flag_byte set) × (result ≤ 1) }
 {
-    if set { 1 } else { 0 }
+    u32::from(set)
 }
 
 // The parts of a plain command: the one place where each has its id, its width and its number. Shutdown's two
@@ -125,87 +123,11 @@ pub fn pack_parts(parts: Parts, buf: &mut [u8], pos: usize) -> Result<usize, Enc
 {
     let width = parts.width;
     let room = buf.len();
-    if room <= width {
+    if room <= width || room - width - 1 < pos {
         return Err(EncodeError::BufferTooSmall);
     }
-    if room - width - 1 < pos {
-        return Err(EncodeError::BufferTooSmall);
-    }
-    packer::pack_u8(buf, pos, parts.id);
-    packer::pack_be(buf, pos + 1, width, parts.number)
-}
-
-// The command that has an id. Ports `TryFrom<u8>` of `CommandId`.
-pub fn command_id(byte: u8) -> Option<CommandId>
-    ensures { identified byte result ≡ id_named byte }
-{
-    if byte == CommandId::FwVersion as u8 {
-        return Some(CommandId::FwVersion);
-    }
-    if byte == CommandId::GetValues as u8 {
-        return Some(CommandId::GetValues);
-    }
-    if byte == CommandId::SetDuty as u8 {
-        return Some(CommandId::SetDuty);
-    }
-    if byte == CommandId::SetCurrent as u8 {
-        return Some(CommandId::SetCurrent);
-    }
-    if byte == CommandId::SetCurrentBrake as u8 {
-        return Some(CommandId::SetCurrentBrake);
-    }
-    if byte == CommandId::SetRpm as u8 {
-        return Some(CommandId::SetRpm);
-    }
-    if byte == CommandId::SetPos as u8 {
-        return Some(CommandId::SetPos);
-    }
-    if byte == CommandId::SetHandbrake as u8 {
-        return Some(CommandId::SetHandbrake);
-    }
-    if byte == CommandId::Reboot as u8 {
-        return Some(CommandId::Reboot);
-    }
-    if byte == CommandId::Alive as u8 {
-        return Some(CommandId::Alive);
-    }
-    if byte == CommandId::ForwardCan as u8 {
-        return Some(CommandId::ForwardCan);
-    }
-    if byte == CommandId::GetValuesSelective as u8 {
-        return Some(CommandId::GetValuesSelective);
-    }
-    if byte == CommandId::GetValuesSetupSelective as u8 {
-        return Some(CommandId::GetValuesSetupSelective);
-    }
-    if byte == CommandId::SetCurrentRel as u8 {
-        return Some(CommandId::SetCurrentRel);
-    }
-    if byte == CommandId::SetOdometer as u8 {
-        return Some(CommandId::SetOdometer);
-    }
-    if byte == CommandId::GetStats as u8 {
-        return Some(CommandId::GetStats);
-    }
-    if byte == CommandId::ResetStats as u8 {
-        return Some(CommandId::ResetStats);
-    }
-    if byte == CommandId::Shutdown as u8 {
-        return Some(CommandId::Shutdown);
-    }
-    if byte == CommandId::FwInfo as u8 {
-        return Some(CommandId::FwInfo);
-    }
-    if byte == CommandId::MotorEstop as u8 {
-        return Some(CommandId::MotorEstop);
-    }
-    None
-}
-
-fn carries(width: usize, most: u8) -> Carried
-    ensures { (result.width ≡ width) × (result.most ≡ most) }
-{
-    Carried { width, most }
+    let next = packer::pack_u8(buf, pos, parts.id)?;
+    packer::pack_be(buf, next, width, parts.number)
 }
 
 // What follows each id. A flag is 0 or 1, so that no byte of one is above 1.
@@ -213,63 +135,60 @@ fn carried_by(id: CommandId) -> Carried
     ensures { (result.width ≡ width_of (form_of id)) × (result.most ≡ most_of (form_of id)) }
 {
     match id {
-        CommandId::FwVersion => carries(0, 255),
-        CommandId::GetValues => carries(0, 255),
-        CommandId::SetDuty => carries(4, 255),
-        CommandId::SetCurrent => carries(4, 255),
-        CommandId::SetCurrentBrake => carries(4, 255),
-        CommandId::SetRpm => carries(4, 255),
-        CommandId::SetPos => carries(4, 255),
-        CommandId::SetHandbrake => carries(4, 255),
-        CommandId::Reboot => carries(0, 255),
-        CommandId::Alive => carries(0, 255),
-        CommandId::ForwardCan => carries(0, 255),
-        CommandId::GetValuesSelective => carries(4, 255),
-        CommandId::GetValuesSetupSelective => carries(4, 255),
-        CommandId::SetCurrentRel => carries(4, 255),
-        CommandId::SetOdometer => carries(4, 255),
-        CommandId::GetStats => carries(2, 255),
-        CommandId::ResetStats => carries(1, 1),
-        CommandId::Shutdown => carries(2, 1),
-        CommandId::FwInfo => carries(0, 255),
-        CommandId::MotorEstop => carries(2, 255),
+        CommandId::FwVersion
+        | CommandId::GetValues
+        | CommandId::Reboot
+        | CommandId::Alive
+        | CommandId::ForwardCan
+        | CommandId::FwInfo => Carried {
+            width: 0,
+            most: 255,
+        },
+        CommandId::SetDuty
+        | CommandId::SetCurrent
+        | CommandId::SetCurrentBrake
+        | CommandId::SetRpm
+        | CommandId::SetPos
+        | CommandId::SetHandbrake
+        | CommandId::GetValuesSelective
+        | CommandId::GetValuesSetupSelective
+        | CommandId::SetCurrentRel
+        | CommandId::SetOdometer => Carried {
+            width: 4,
+            most: 255,
+        },
+        CommandId::GetStats | CommandId::MotorEstop => Carried {
+            width: 2,
+            most: 255,
+        },
+        CommandId::ResetStats => Carried { width: 1, most: 1 },
+        CommandId::Shutdown => Carried { width: 2, most: 1 },
     }
 }
 
-// Whether no byte behind the first is above `most`.
+// Whether no byte is above `most`.
 fn at_most(bytes: &[u8], most: u8) -> bool
-    ensures { result ≡ at_most most (drop 1 bytes.now) }
+    ensures { IsTrue result ↔ EachIndex bytes.now (λ k. slice_index bytes.now k ≤ most) }
 {
-    let mut at: usize = 1;
-    while at < bytes.len() {
-        if most < bytes[at] {
-            return false;
-        }
-        at += 1;
-    }
-    true
+    bytes.iter().all(|byte| *byte <= most)
 }
 
 // The four bytes behind the id.
+#[tactic(auto, unfolding(packer::specs::Numbers::be_at))]
 fn word_in(bytes: &[u8]) -> u32
     requires { 5 ≤ length bytes.now }
     ensures { result ≡ be_at bytes.now 1 4 }
 {
-    match packer::unpack_u32(bytes, 1) {
-        Ok((number, _)) => number,
-        Err(_) => 0,
-    }
+    u32::from_be_bytes([bytes[1], bytes[2], bytes[3], bytes[4]])
 }
 
 // The two bytes behind the id.
+#[tactic(auto, unfolding(packer::specs::Numbers::be_at))]
 fn half_in(bytes: &[u8]) -> u16
     requires { 3 ≤ length bytes.now }
     ensures { result ≡ be_at bytes.now 1 2 }
 {
-    match packer::unpack_u16(bytes, 1) {
-        Ok((number, _)) => number,
-        Err(_) => 0,
-    }
+    u16::from_be_bytes([bytes[1], bytes[2]])
 }
 
 // A flag among the bytes.
@@ -289,7 +208,7 @@ fn signed_in(bytes: &[u8]) -> i32
 }
 
 // The command with an id, and with the value in the bytes behind it; the inverse of `parts_of`. ForwardCan is no plain
-// command and does not come here; FwVersion is a filler.
+// command and does not come here.
 fn command_of(id: CommandId, bytes: &[u8]) -> RawCommand
     requires { (length bytes.now ≡ 1 + width_of (form_of id)) × (is_forward id ≡ false) }
     ensures { plain_of result ≡ numbered id (be_at bytes.now 1 (width_of (form_of id))) }
@@ -305,7 +224,7 @@ fn command_of(id: CommandId, bytes: &[u8]) -> RawCommand
         CommandId::SetHandbrake => RawCommand::SetHandbrake(signed_in(bytes)),
         CommandId::Reboot => RawCommand::Reboot,
         CommandId::Alive => RawCommand::Alive,
-        CommandId::ForwardCan => RawCommand::FwVersion,
+        CommandId::ForwardCan => unreachable!(),
         CommandId::GetValuesSelective => RawCommand::GetValuesSelective(word_in(bytes)),
         CommandId::GetValuesSetupSelective => RawCommand::GetValuesSetupSelective(word_in(bytes)),
         CommandId::SetCurrentRel => RawCommand::SetCurrentRel(signed_in(bytes)),
@@ -327,10 +246,10 @@ fn unpack_value(id: CommandId, bytes: &[u8]) -> Result<RawCommand, DecodeError>
     if bytes.len() != 1 + carried.width {
         return Err(DecodeError::InvalidFrame);
     }
-    if at_most(bytes, carried.most) {
-        return Ok(command_of(id, bytes));
+    if !at_most(&bytes[1..], carried.most) {
+        return Err(DecodeError::InvalidFrame);
     }
-    Err(DecodeError::InvalidFrame)
+    Ok(command_of(id, bytes))
 }
 
 // The plain command that bytes are, from the id to the last: document 02, W2, "the payload from the left". A hop is no
@@ -338,15 +257,12 @@ fn unpack_value(id: CommandId, bytes: &[u8]) -> Result<RawCommand, DecodeError>
 pub fn unpack_command(bytes: &[u8]) -> Result<RawCommand, DecodeError>
     ensures { unpacked_command result ≡ plain_in bytes.now }
 {
-    if bytes.len() <= 0 {
+    let [first, ..] = *bytes else {
+        return Err(DecodeError::InvalidFrame);
+    };
+    if first == format::FORWARD_CAN {
         return Err(DecodeError::InvalidFrame);
     }
-    let first = bytes[0];
-    if first == CommandId::ForwardCan as u8 {
-        return Err(DecodeError::InvalidFrame);
-    }
-    match command_id(first) {
-        Some(id) => unpack_value(id, bytes),
-        None => Err(DecodeError::UnknownPacket { id: first }),
-    }
+    let id = CommandId::try_from(first)?;
+    unpack_value(id, bytes)
 }

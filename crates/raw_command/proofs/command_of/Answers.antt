@@ -6,7 +6,7 @@ use native.Mathlib.Omega.{arith}
 use lib.IntN.{ℤ}
 use Rattle.format.specs.declared.CommandId.TheVariants as id
 use Rattle.packer.proofs.Complement.{called-i32}
-use Rattle.raw_command.proofs.Arms.{arm, no_arm, flag-there, flags-there}
+use Rattle.raw_command.proofs.Arms.{arm, flag-there, flags-there}
 use Rattle.raw_command.proofs.command_of.Goals as goal
 
 pub returns-in-FwVersion : goal.returns-in-FwVersion
@@ -38,9 +38,6 @@ returns-in-Reboot c = arm c.args.bytes.now c.in-Reboot.is refl
 
 pub returns-in-Alive : goal.returns-in-Alive
 returns-in-Alive c = arm c.args.bytes.now c.in-Alive.is refl
-
-pub returns-in-ForwardCan : goal.returns-in-ForwardCan
-returns-in-ForwardCan c = no_arm c.in-ForwardCan.is c.requires.1
 
 pub returns-in-GetValuesSelective : goal.returns-in-GetValuesSelective
 returns-in-GetValuesSelective c = arm c.args.bytes.now c.in-GetValuesSelective.is (ap (λ (n : ℕ). record { id = id.GetValuesSelective; value = n }) c.word_in.ensures)
