@@ -5,7 +5,7 @@
 ghost use Rattle.std.specs.Prelude.{◌≡◌, false, ◌+◌, ◌≤◌, ◌<◌, eqb, length, get_or, ◌↔◌, IsTrue, EachIndex, slice_index};
 ghost use Rattle.packer.specs.Numbers.{be_at, signed_of};
 ghost use Rattle.packer.specs.Packing.{PackIs};
-ghost use Rattle.raw_command.specs.Commands.{form_of, width_of, most_of, flag_byte, plain_of, PartsIs, parts_bytes};
+ghost use Rattle.raw_command.specs.Commands.{form_of, width_of, most_of, plain_of, PartsIs, parts_bytes};
 ghost use Rattle.raw_command.specs.Reading.{is_forward, numbered, plain_with, plain_in, unpacked_command};
 
 use format::CommandId;
@@ -57,15 +57,8 @@ fn sent(id: u8, width: usize, number: u32) -> Parts
     Parts { id, width, number }
 }
 
-// A flag as 0 or 1.
-fn flag(set: bool) -> u32
-    ensures { (result ≡ flag_byte set) × (result ≤ 1) }
-{
-    u32::from(set)
-}
-
-// The parts of a plain command: the one place where each has its id, its width and its number. Shutdown's two
-// flags are a byte each of one number.
+// The parts of a plain command: the one place where each has its id, its width and its number. A flag is 0 or 1;
+// Shutdown's two are a byte each of one number.
 pub fn parts_of(command: RawCommand) -> Parts
     ensures { PartsIs command result }
 {
@@ -105,11 +98,11 @@ pub fn parts_of(command: RawCommand) -> Parts
         ),
         RawCommand::SetOdometer(odometer) => sent(CommandId::SetOdometer as u8, 4, odometer),
         RawCommand::GetStats(mask) => sent(CommandId::GetStats as u8, 2, mask as u32),
-        RawCommand::ResetStats(ack) => sent(CommandId::ResetStats as u8, 1, flag(ack)),
+        RawCommand::ResetStats(ack) => sent(CommandId::ResetStats as u8, 1, u32::from(ack)),
         RawCommand::Shutdown(force, restart) => sent(
             CommandId::Shutdown as u8,
             2,
-            flag(force) * 256 + flag(restart),
+            u32::from(force) * 256 + u32::from(restart),
         ),
         RawCommand::FwInfo => sent(CommandId::FwInfo as u8, 0, 0),
         RawCommand::MotorEstop(time) => sent(CommandId::MotorEstop as u8, 2, time as u32),

@@ -1,8 +1,9 @@
 -- `raw_command::parts_of` meets its contract: the arms of its match, one a line.
-use mathlib.Core.Path.{refl}
+use mathlib.Core.Path.{◌≡◌, refl}
 use mir.Syntax.{w32}
 use mir.ValLaws.{to_z-of_z}
 use borrow.Author.Rules.{rules}
+use Rattle.raw_command.specs.Commands.{flag_byte}
 use Rattle.raw_command.proofs.Packing.{made}
 use Rattle.raw_command.proofs.parts_of.Goals as goal
 
@@ -40,10 +41,13 @@ pub returns-in-GetStats : goal.returns-in-GetStats
 returns-in-GetStats c = made c.in-GetStats.is c.sent-in-GetStats.ensures refl (search rules)
 
 pub returns-in-ResetStats : goal.returns-in-ResetStats
-returns-in-ResetStats c = made c.in-ResetStats.is c.sent-in-ResetStats.ensures c.flag.ensures.0 (search rules)
+returns-in-ResetStats c = made c.in-ResetStats.is c.sent-in-ResetStats.ensures (search rules) (search rules)
 
 pub returns-in-Shutdown : goal.returns-in-Shutdown
-returns-in-Shutdown c = made c.in-Shutdown.is c.sent-in-Shutdown.ensures (rw (c.flag-in-Shutdown.ensures.0, c.flag-in-Shutdown-2.ensures.0)) (search rules)
+returns-in-Shutdown c =
+    let force : c.from-in-Shutdown.result ≡ flag_byte c.in-Shutdown.force = search rules in
+    let restart : c.from-in-Shutdown-2.result ≡ flag_byte c.in-Shutdown.restart = search rules in
+    made c.in-Shutdown.is c.sent-in-Shutdown.ensures (rw (force, restart)) (search rules)
 
 pub returns-in-MotorEstop : goal.returns-in-MotorEstop
 returns-in-MotorEstop c = made c.in-MotorEstop.is c.sent-in-MotorEstop.ensures refl (search rules)
