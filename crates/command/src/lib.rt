@@ -7,6 +7,7 @@ ghost use Rattle.packer.specs.Packing.{PackIs};
 ghost use Rattle.command.specs.Commands.{raw_of, bytes_of, size_of};
 
 use raw_command::RawCommand;
+use refusals::EncodeError;
 
 mod masks;
 
@@ -14,7 +15,7 @@ pub use masks::{StatsMask, ValuesMask, ValuesSetupMask};
 
 // Commands that can be sent to a VESC controller. The Rust's ForwardCan is not among them: the controllers
 // that a command is forwarded through are given to `encode::encode` beside it.
-#[derive(Clone, Copy)]
+#[derive(Clone, Copy, Debug, PartialEq)]
 pub enum Command {
     // Requests firmware version information.
     FwVersion,
