@@ -1,10 +1,9 @@
 -- What a name holds: what a copy to the front of zeros leaves.
 use mathlib.Core.Path.{◌≡◌}
 use mathlib.Core.List.{List, ◌++◌}
-use Prim.Native.Nat.{ℕ, zero, suc, ◌-◌, ◌≤◌}
+use Prim.Native.Nat.{ℕ, zero, suc, ◌-◌}
 use native.Mathlib.Omega.{arith}
-use lib.ListN.{length, take, drop, replicate, length-drop}
-use lib.Seq.{length-take-le}
+use lib.ListN.{length, take, drop, replicate}
 use Rattle.refusals.specs.Refusals.{Answer, ok}
 use Rattle.names.specs.Names.{nul_within, held_bytes, name_at}
 use Rattle.names.proofs.Places.{Ends}
@@ -21,11 +20,6 @@ pub name_of
     → held ≡ held_bytes room (drop place bytes) place answer → record { answer = answer; bytes = held } ≡ name_at room bytes place
 unfolding name_at
 name_of room bytes place answer held e h = rw (h, e)
-
--- how many bytes stand from a place up to the next
-pub part-length
-    : (room : ℕ) (bytes : List ℕ) (place next : ℕ) → Ends room (length bytes) place next → length (take (next - place) (drop place bytes)) ≡ next - place
-part-length room bytes place next ends = let there : next - place ≤ length (drop place bytes) = simp length-drop (omega arith) in length-take-le (next - place) (drop place bytes) there
 
 -- what a copy of the bytes from a place up to the next leaves of the zeros
 pub copied-held

@@ -9,9 +9,9 @@ use lib.Dec.{eqb}
 use lib.ListN.{length, drop, length-drop}
 use Rattle.refusals.specs.Refusals.{Answer, ok}
 use Rattle.refusals.proofs.Different.{none}
-use Rattle.refusals.specs.declared.Consumed.{Consumed}
-use Rattle.refusals.specs.declared.Consumed.TheVariants.{To}
-use Rattle.names.specs.Names.{nul_within, name_at}
+use Rattle.std.specs.Prelude.{Result, Ok}
+use Rattle.refusals.specs.declared.DecodeError.{DecodeError}
+use Rattle.names.specs.Names.{nul_within}
 use Rattle.refusals.specs.Refusals.{consumed}
 
 -- a choice that gives n gives it on one side
@@ -46,11 +46,6 @@ given-ends room bytes place next e =
 
 -- the same of a scan that found its place
 pub found-ends
-    : (room : ℕ) (bytes : List ℕ) (place next : ℕ) {scan : Consumed} → consumed scan ≡ nul_within room (drop place bytes) place → scan ≡ To next
+    : (room : ℕ) (bytes : List ℕ) (place next : ℕ) {scan : Result ℕ DecodeError} → consumed scan ≡ nul_within room (drop place bytes) place → scan ≡ Ok next
     → Ends room (length bytes) place next
 found-ends room bytes place next answer found = given-ends room bytes place next (sym answer ∙ ap consumed found)
-
--- the same of a name
-pub name-ends : (room : ℕ) (bytes : List ℕ) (place next : ℕ) → (name_at room bytes place).answer ≡ ok next → Ends room (length bytes) place next
-unfolding name_at
-name-ends = given-ends

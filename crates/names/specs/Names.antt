@@ -1,13 +1,9 @@
 -- Document 01, "Reply fields": "Names hold 39 bytes in FwVersion, 47 in FwInfo, the NUL among them, zeros after it." Their room, 39 or 47, is an
 -- argument of each definition.
-use Rattle.std.specs.Prelude.{ℕ, zero, suc, ◌+◌, ◌-◌, Bool, true, ◌&&◌, cond, List, [], ◌∷◌, ◌++◌, take, drop, replicate, eqb}
-use Rattle.refusals.specs.Refusals.{Answer, ok, refused, consumed, incomplete_data, invalid_frame, bad_name}
+use Rattle.std.specs.Prelude.{ℕ, zero, suc, ◌+◌, ◌-◌, Bool, true, ◌&&◌, cond, List, [], ◌∷◌, ◌++◌, take, drop, replicate, eqb, Option, Some, None, Result, Ok, Err}
+use Rattle.refusals.specs.Refusals.{Answer, ok, refused, decode_refusal, incomplete_data, invalid_frame, bad_name}
 use Rattle.refusals.specs.Answers.{unless}
-use Rattle.refusals.specs.declared.Consumed.{Consumed}
-use Rattle.names.specs.declared.Name39.{Name39}
-use Rattle.names.specs.declared.Name47.{Name47}
-use Rattle.names.specs.declared.NameSent.{NameSent}
-use Rattle.names.specs.declared.NameSent.TheVariants.{Bytes, Bad}
+use Rattle.refusals.specs.declared.DecodeError.{DecodeError}
 
 -- the place after the first NUL among the next `room` bytes; the bytes left are given, and the place of the first of them.
 -- "2 for a name without NUL": no room left; "A read past the end of the slice is 1": no byte left; a NUL; any other byte
@@ -34,17 +30,10 @@ name_at room bytes place =
       bytes = held_bytes room (drop place bytes) place (nul_within room (drop place bytes) place);
     }
 
--- the name that a scan and an array of bytes are
-abbrev pub named : Consumed → List ℕ → Name
-named scan bytes = record { answer = consumed scan; bytes = bytes }
-
--- the name that FwVersion's sort of answer is
-abbrev pub named39 : Name39 → Name
-named39 n = named n.answer n.bytes
-
--- the name that FwInfo's sort of answer is
-abbrev pub named47 : Name47 → Name
-named47 n = named n.answer n.bytes
+-- the name that `unpack_c_string` returns, by its room
+abbrev pub named : ℕ → Result (List ℕ × ℕ) DecodeError → Name
+named room (Ok (bytes, next)) = record { answer = ok next; bytes = bytes }
+named room (Err error) = record { answer = refused (decode_refusal error); bytes = replicate room 0 }
 
 -- The other way: how many bytes are sent of a name that is held in its room, "the NUL among them". Document 02, W4: "7 BadName (no NUL in its room, or a
 -- nonzero byte after it)"
@@ -63,6 +52,6 @@ unfoldable pub sent_of : ℕ → List ℕ → Answer ℕ
 sent_of room held = sent_through held (nul_within room held 0)
 
 -- what `sent_len` returns
-abbrev pub name_sent : NameSent → Answer ℕ
-name_sent (Bytes count) = ok count
-name_sent Bad = refused bad_name
+abbrev pub name_sent : Option ℕ → Answer ℕ
+name_sent (Some count) = ok count
+name_sent None = refused bad_name

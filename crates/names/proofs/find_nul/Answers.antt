@@ -1,44 +1,27 @@
--- `find_nul` meets its contract. The loop's invariant: what is left to scan answers as the whole does.
-use mathlib.Core.Path.{◌≡◌, refl, sym, ◌∙◌}
-use native.Mathlib.Omega.{arith}
-use Rattle.names.specs.Names.{nul_within}
-use Rattle.names.proofs.Scanning.{scan-past-end, scan-nul, scan-on}
+-- `find_nul` meets its contract.
+use mathlib.Core.Path.{refl, sym, ap, ◌∙◌}
+use borrow.Author.Tests.{lt-ltb, le-ltb}
+use Rattle.std.proofs.Common.{rules, tests}
+use Rattle.std.proofs.lemmas.Iterator.{YieldsList-from_slice, YieldsList-from_take}
+use Rattle.std.proofs.lemmas.Iterator.Search.{position_from_yields_List}
+use Rattle.names.proofs.Scanning.{is_nul, scanned, scan-is}
 use Rattle.names.proofs.find_nul.Goals as goal
 
-pub loop-left-init : goal.loop-left-init
-loop-left-init c = refl
+pub returns-in-Some : goal.returns-in-Some
+returns-in-Some c =
+    let first = position_from_yields_List is_nul _ _ c.position.result c.position.ensures.ran (YieldsList-from_take _ (YieldsList-from_slice c.unwrap_or-left.result.now cc) cc) (λ x b q k. search (rules, tests)) in
+    sym (scan-is c.args.room c.args.buf.now c.args.pos _ _ c.get.ensures.lookup refl c.unwrap_or-left.ensures first ∙ ap (scanned _ _) c.in-Some.is)
 
-pub returns-then-buf-at : goal.returns-then-buf-at
-returns-then-buf-at c = sym (c.loop-left.invariant ∙ scan-past-end _ _ _ c.loop-left-test.true c.if-buf-at.true)
-
-pub bounds-buf-at : goal.bounds-buf-at
-bounds-buf-at c = omega arith
-
-pub overflow_add-result : goal.overflow_add-result
-overflow_add-result c = omega arith
-
-pub returns-then-buf-at-eq0 : goal.returns-then-buf-at-eq0
-returns-then-buf-at-eq0 c =
+pub returns-in-None : goal.returns-in-None
+returns-in-None c =
+    let first = position_from_yields_List is_nul _ _ c.position.result c.position.ensures.ran (YieldsList-from_take _ (YieldsList-from_slice c.unwrap_or-left.result.now cc) cc) (λ x b q k. search (rules, tests)) in
     sym
-    (c.loop-left.invariant
-    ∙ scan-nul _ _ _ c.loop-left-test.true c.if-buf-at.false c.if-buf-at-eq0.true)
+    (scan-is c.args.room c.args.buf.now c.args.pos _ _ c.get.ensures.lookup refl c.unwrap_or-left.ensures first
+    ∙ rw (c.in-None.is, lt-ltb _ _ c.if-left-room.true))
 
-pub overflow_add-at : goal.overflow_add-at
-overflow_add-at c = omega arith
-
-pub overflow_sub-left : goal.overflow_sub-left
-overflow_sub-left c = omega arith
-
-pub loop-left-smaller : goal.loop-left-smaller
-loop-left-smaller c = omega arith
-
-pub loop-left-preserved : goal.loop-left-preserved
-loop-left-preserved c =
-    c.loop-left.invariant
-    ∙ scan-on _ _ _ c.loop-left-test.true c.if-buf-at.false c.if-buf-at-eq0.false
-
-pub returns : goal.returns
-unfolding nul_within
-returns c =
-    let full : c.loop-left.left ≡ 0 = omega arith in
-    sym (rw full at c.loop-left.invariant)
+pub returns-in-None-2 : goal.returns-in-None-2
+returns-in-None-2 c =
+    let first = position_from_yields_List is_nul _ _ c.position.result c.position.ensures.ran (YieldsList-from_take _ (YieldsList-from_slice c.unwrap_or-left.result.now cc) cc) (λ x b q k. search (rules, tests)) in
+    sym
+    (scan-is c.args.room c.args.buf.now c.args.pos _ _ c.get.ensures.lookup refl c.unwrap_or-left.ensures first
+    ∙ rw (c.in-None.is, le-ltb _ _ c.if-left-room.false))

@@ -1,20 +1,29 @@
 -- `sent_len` meets its contract.
-use mathlib.Core.Path.{sym, ap, ◌∙◌}
-use Rattle.refusals.specs.Refusals.{consumed}
-use Rattle.names.proofs.Scanning.{sent-through, other_after, no_nul}
+use mathlib.Core.Path.{sym, ◌∙◌}
+use lib.ListN.{drop}
+use Rattle.std.proofs.Common.{rules, tests, arith}
+use Rattle.std.proofs.lemmas.Iterator.{YieldsList-from_slice}
+use Rattle.std.proofs.lemmas.Iterator.Search.{all_from_yields_List}
+use Rattle.names.proofs.Places.{found-ends}
+use Rattle.names.proofs.Scanning.{is_nul, zeros-are, rest-whole, found_ok, sent-is, none-sent}
 use Rattle.names.proofs.sent_len.Goals as goal
 
-pub returns-then-zeros_from : goal.returns-then-zeros_from
-returns-then-zeros_from c =
-    sym
-    (sent-through _ _ _ (sym c.find_nul.ensures ∙ ap consumed c.in-To.is)
-    (sym c.zeros_from.ensures ∙ c.if-zeros_from.true))
+pub returns-in_err-next : goal.returns-in_err-next
+returns-in_err-next c = rw c.from_residual.ensures (sym (none-sent _ _ _ c.find_nul.ensures (sym c.ok.ensures.value ∙ c.in_err-next.was)))
 
-pub returns-else-zeros_from : goal.returns-else-zeros_from
-returns-else-zeros_from c =
-    sym
-    (other_after _ _ _ (sym c.find_nul.ensures ∙ ap consumed c.in-To.is)
-    (sym c.zeros_from.ensures ∙ c.if-zeros_from.false))
+pub slice_bounds-iter-count : goal.slice_bounds-iter-count
+slice_bounds-iter-count c =
+    let ends = found-ends _ c.args.held.now 0 c.in_ok-next.next c.find_nul.ensures (found_ok _ _ c.in_ok-next.ensures.value) in
+    omega arith
 
-pub returns-in-Refused : goal.returns-in-Refused
-returns-in-Refused c = sym (no_nul _ _ _ (sym c.find_nul.ensures ∙ ap consumed c.in-Refused.is))
+pub slice_bounds-iter-start : goal.slice_bounds-iter-start
+slice_bounds-iter-start c =
+    let ends = found-ends _ c.args.held.now 0 c.in_ok-next.next c.find_nul.ensures (found_ok _ _ c.in_ok-next.ensures.value) in
+    search rules
+
+pub returns : goal.returns
+returns c =
+    let left = drop c.in_ok-next.next c.args.held.now in
+    let zeros = all_from_yields_List is_nul _ _ c.all.result c.all.ensures.ran (YieldsList-from_slice left (cc (rest-whole c.args.held.now c.in_ok-next.next))) (λ x b q k. search (rules, tests)) in
+    rw c.then_some.ensures
+    (sent-is _ _ _ _ _ c.find_nul.ensures c.in_ok-next.ensures.value (zeros ∙ sym (zeros-are left)))
