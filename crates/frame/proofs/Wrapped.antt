@@ -9,15 +9,15 @@ use lib.Dec.{T, ltb, nltb→le}
 use lib.ListN.{length, take, drop, length-append, length-drop, take-append-drop}
 use lib.Seq.{length-take-le, take-add, take_at, drop_at, drop-drop, drop-append-add}
 use borrow.Author.Tests.{lt-ltb, le-ltb}
+use Rattle.std.specs.Prelude.{Result, Ok, Err}
 use Rattle.refusals.specs.Refusals.{Answer, ok, refused, buffer_too_small, payload_too_long}
+use Rattle.refusals.specs.declared.EncodeError.{EncodeError}
 use Rattle.refusals.specs.declared.EncodeError.TheVariants.{BufferTooSmall, PayloadTooLong}
 use Rattle.refusals.proofs.Different.{none}
 use Rattle.checksum.specs.Xmodem.{checksum_of}
 use Rattle.format.specs.Format.{frame_start, frame_end, payload_at, payload_max}
 use Rattle.packer.specs.Numbers.{big_endian}
 use Rattle.packer.specs.Packing.{written, packed, PackIs}
-use Rattle.packer.specs.declared.Packed.{Packed}
-use Rattle.packer.specs.declared.Packed.TheVariants.{Next, Refused}
 use Rattle.packer.proofs.Writes.{digits-length, byte, fits-answer, fits_after, after-length, two-packs}
 use Rattle.frame.specs.Frame.{short, frame_of, frame_size}
 use Rattle.frame.specs.Room.{room_answer}
@@ -63,13 +63,19 @@ after-answer payload l a e = ap (λ (x : Answer ℕ). held_after x (frame_of sho
 
 -- ---- the frame as a run of writes
 
+-- a number that has its room is written, and not refused
+pub not-refused : {l after : List ℕ} {error : EncodeError} (width n at : ℕ) → at + width ≤ length l → PackIs (big_endian width n) l at (Err error) after → ⊥
+not-refused {l} width n at room w =
+    let fits = fits-answer (big_endian width n) l at (omega (arith, digits-length width n)) in
+    none (cc (w.answer, fits))
+
 -- what was written at the front stands there, and the rest is as it was
-at_front : {bytes l after : List ℕ} {r : Packed} → PackIs bytes l 0 r after → length bytes ≤ length l → after ≡ bytes ++ drop (length bytes) l
+at_front : {bytes l after : List ℕ} {r : Result ℕ EncodeError} → PackIs bytes l 0 r after → length bytes ≤ length l → after ≡ bytes ++ drop (length bytes) l
 unfolding written
 at_front {bytes} {l} w room = w.holds ∙ fits_after bytes l 0 (omega arith) ∙ rw zero-add
 
 -- to write the bytes that stand at a place is to write nothing
-same-packed : (l : List ℕ) (at n : ℕ) → at + n ≤ length l → PackIs (take n (drop at l)) l at (Next (at + n)) l
+same-packed : (l : List ℕ) (at n : ℕ) → at + n ≤ length l → PackIs (take n (drop at l)) l at (Ok (at + n)) l
 unfolding written
 same-packed l at n room =
     let size : length (take n (drop at l)) ≡ n = length-take-le n (drop at l) (simp length-drop (omega arith)) in
@@ -84,18 +90,18 @@ module _ (n : ℕ) (l : List ℕ) where
   abbrev there : List ℕ
   there = take n (drop payload_at l)
 
-  wrap-is : {r : Packed} {after : List ℕ} (a : Answer ℕ) → wrap_answer n (length l) ≡ a → packed r ≡ a → after ≡ held_after a (frame_of short there) l → WrapIs n l r after
+  wrap-is : {r : Result ℕ EncodeError} {after : List ℕ} (a : Answer ℕ) → wrap_answer n (length l) ≡ a → packed r ≡ a → after ≡ held_after a (frame_of short there) l → WrapIs n l r after
   wrap-is a is answers holds =
       record { answer = answers ∙ sym is; holds = holds ∙ ap (λ (x : Answer ℕ). held_after x (frame_of short there) l) (sym is) }
 
-  pub too_long : payload_max < n → WrapIs n l (Refused PayloadTooLong) l
+  pub too_long : payload_max < n → WrapIs n l (Err PayloadTooLong) l
   too_long h = wrap-is _ (answer-too-long n (length l) h) refl refl
 
   module _ (small : n ≤ payload_max) where
-    pub too_small : length l < frame_size short n → WrapIs n l (Refused BufferTooSmall) l
+    pub too_small : length l < frame_size short n → WrapIs n l (Err BufferTooSmall) l
     too_small h = wrap-is _ (answer-too-small n (length l) small h) refl refl
 
-    module _ (room : frame_size short n ≤ length l) {k m : List ℕ} {q r : Packed} (one : PackIs (big_endian 1 frame_start) l 0 q k) (two : PackIs (big_endian 1 n) k 1 r m) where
+    module _ (room : frame_size short n ≤ length l) {k m : List ℕ} {q r : Result ℕ EncodeError} (one : PackIs (big_endian 1 frame_start) l 0 q k) (two : PackIs (big_endian 1 n) k 1 r m) where
       size : length there ≡ n
       size = length-take-le n (drop payload_at l) (simp length-drop (omega arith))
 
@@ -108,11 +114,11 @@ module _ (n : ℕ) (l : List ℕ) where
       payload-there : take n (drop payload_at m) ≡ there
       payload-there = ap (λ (x : List ℕ). take n (drop payload_at x)) (at_front front (omega arith))
 
-      up-to-payload : PackIs (frame_start ∷ n ∷ there) l 0 (Next (payload_at + n)) m
+      up-to-payload : PackIs (frame_start ∷ n ∷ there) l 0 (Ok (payload_at + n)) m
       up-to-payload =
           two-packs {p = frame_start ∷ n ∷ []} {q = there} (omega (arith, size)) front (rw payload-there at (same-packed m payload_at n (omega (arith, as_long))))
 
-      module _ {o after : List ℕ} {s t : Packed} {sum : ℕ} (three : PackIs (big_endian 2 sum) m (payload_at + n) s o)
+      module _ {o after : List ℕ} {s t : Result ℕ EncodeError} {sum : ℕ} (three : PackIs (big_endian 2 sum) m (payload_at + n) s o)
           (four : PackIs (big_endian 1 frame_end) o (payload_at + n + 2) t after) (summed : sum ≡ checksum_of (take (payload_at + n - payload_at) (drop payload_at l))) where
         abbrev ending : List ℕ
         ending = big_endian 2 sum ++ (frame_end ∷ [])
@@ -142,7 +148,7 @@ module _ (n : ℕ) (l : List ℕ) where
 
 -- ---- a payload written at its place, and then wrapped
 
-module _ {l m : List ℕ} {s : Packed} (payload : List ℕ) (small : length payload ≤ payload_max) (room : frame_size short (length payload) ≤ length l)
+module _ {l m : List ℕ} {s : Result ℕ EncodeError} (payload : List ℕ) (small : length payload ≤ payload_max) (room : frame_size short (length payload) ≤ length l)
     (w : PackIs payload l payload_at s m) where
   abbrev ahead : List ℕ
   ahead = take payload_at l ++ payload
@@ -171,7 +177,7 @@ module _ {l m : List ℕ} {s : Packed} (payload : List ℕ) (small : length payl
       rw (long, m-is) (drop-append-add ahead behind 3 ∙ drop-drop 3 (payload_at + length payload) l ∙ ap (λ (at : ℕ). drop at l) further)
 
   -- the size of the frame is answered, and the buffer begins with the frame
-  pub payload-wrapped : {after : List ℕ} {r : Packed} {n : ℕ} → n ≡ length payload → WrapIs n m r after
+  pub payload-wrapped : {after : List ℕ} {r : Result ℕ EncodeError} {n : ℕ} → n ≡ length payload → WrapIs n m r after
       → (packed r ≡ ok (frame_size short (length payload))) × (after ≡ frame_of short payload ++ drop (length (frame_of short payload)) l)
   payload-wrapped {after} {r} count is =
       let here : WrapIs (length payload) m r after = subst (λ (n : ℕ). WrapIs n m r after) count is in

@@ -19,9 +19,10 @@ fn judge_sum(buf: &[u8], n: usize, expected: u16) -> Result<usize, DecodeError>
     let count = n + format::FRAME_EXTRA;
     let actual = checksum::checksum(&buf[format::PAYLOAD_AT..end]);
     if expected == actual {
-        return Ok(count);
+        Ok(count)
+    } else {
+        Err(DecodeError::ChecksumMismatch { expected, actual })
     }
-    Err(DecodeError::ChecksumMismatch { expected, actual })
 }
 
 // What follows the `n` payload bytes of a frame: where the frame ends, or why it is none.
@@ -29,17 +30,11 @@ pub fn finish(buf: &[u8], n: u8) -> Result<usize, DecodeError>
     ensures { consumed result ≡ finish_of buf.now n }
 {
     let len = n as usize;
-    match packer::unpack_u16(buf, len + format::PAYLOAD_AT) {
-        Ok((expected, last)) => {
-            if buf.len() <= last {
-                return Err(DecodeError::IncompleteData);
-            }
-            if buf[last] != format::FRAME_END {
-                return Err(DecodeError::InvalidFrame);
-            }
-            judge_sum(buf, len, expected)
-        }
-        Err(e) => Err(e),
+    let (expected, last) = packer::unpack_u16(buf, len + format::PAYLOAD_AT)?;
+    match buf.get(last) {
+        None => Err(DecodeError::IncompleteData),
+        Some(&format::FRAME_END) => judge_sum(buf, len, expected),
+        Some(_) => Err(DecodeError::InvalidFrame),
     }
 }
 
@@ -48,16 +43,12 @@ pub fn finish(buf: &[u8], n: u8) -> Result<usize, DecodeError>
 pub fn open(buf: &[u8]) -> Result<usize, DecodeError>
     ensures { consumed result ≡ open_of buf.now }
 {
-    if buf.len() <= 0 {
-        return Err(DecodeError::IncompleteData);
+    match buf {
+        [] => Err(DecodeError::IncompleteData),
+        [start, ..] if *start != format::FRAME_START_SHORT => Err(DecodeError::InvalidFrame),
+        [_] => Err(DecodeError::IncompleteData),
+        [_, n, ..] => finish(buf, *n),
     }
-    if buf[0] != format::FRAME_START_SHORT {
-        return Err(DecodeError::InvalidFrame);
-    }
-    if buf.len() <= 1 {
-        return Err(DecodeError::IncompleteData);
-    }
-    finish(buf, buf[1])
 }
 
 // Writes a frame around the `len` payload bytes that stand at byte 2 of `buf`, and returns the frame's size.
@@ -73,8 +64,8 @@ pub fn wrap(len: usize, buf: &mut [u8]) -> Result<usize, EncodeError>
     }
     let end = format::PAYLOAD_AT + len;
     let sum = checksum::checksum(&buf[format::PAYLOAD_AT..end]);
-    packer::pack_u8(buf, 0, format::FRAME_START_SHORT);
-    packer::pack_u8(buf, 1, len as u8);
-    packer::pack_u16(buf, end, sum);
+    packer::pack_u8(buf, 0, format::FRAME_START_SHORT)?;
+    packer::pack_u8(buf, 1, len as u8)?;
+    packer::pack_u16(buf, end, sum)?;
     packer::pack_u8(buf, end + 2, format::FRAME_END)
 }
