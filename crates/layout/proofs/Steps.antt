@@ -8,7 +8,7 @@ use Rattle.refusals.specs.Refusals.{Refusal, Answer, ok, refused}
 use Rattle.refusals.specs.Answers.{and_then}
 use Rattle.packer.specs.Numbers.{be_at, total}
 use Rattle.packer.specs.Unpacking.{unsigned_at, consume_at}
-use Rattle.packer.proofs.Places.{bytes-got, bytes-lacking, read-given}
+use Rattle.packer.proofs.Places.{bytes-lacking, read-given}
 use Rattle.packer.proofs.Kept.{read-refused}
 use Rattle.tables.specs.Tables.{Field, widths}
 use Rattle.layout.specs.Layout.{masked, extent_of, extent}
@@ -36,4 +36,4 @@ module _ (table : List Field) (s : List ℕ) (at : ℕ) where
       ap refused read.1 ∙ sym (masked-alone ∙ bytes-lacking (4 + total (widths (be_at s at 4) table)) s at (omega arith))
 
 -- what the check is given for the functions of src/lib.rt
-pub ruleset steps = (whole, bytes-got, bytes-lacking, mask-read, mask-lacking)
+pub ruleset steps = (whole, mask-read, mask-lacking)

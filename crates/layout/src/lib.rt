@@ -4,7 +4,6 @@
 
 ghost use Rattle.std.specs.Prelude.{◌≡◌, [], ◌∷◌};
 ghost use Rattle.refusals.specs.Refusals.{consumed};
-ghost use Rattle.packer.specs.Unpacking.{consume_at};
 ghost use Rattle.tables.specs.Sorts.{table_of};
 ghost use Rattle.layout.specs.Layout.{masked, extent};
 ghost use Rattle.layout.specs.Replies.{get_values, fw_version_layout, fw_info_layout, fields_end};
@@ -12,34 +11,22 @@ ghost use Rattle.layout.specs.Replies.{get_values, fw_version_layout, fw_info_la
 use refusals::DecodeError;
 use tables::Sort;
 
-// The place `width` bytes after `at`, where they are there. A sum that does not fit lies past the end of every slice.
-fn skip(part: &[u8], at: usize, width: usize) -> Result<usize, DecodeError>
-    ensures { consumed result ≡ consume_at width part.now at }
-{
-    let end = at.saturating_add(width);
-    if end <= part.len() {
-        Ok(end)
-    } else {
-        Err(DecodeError::IncompleteData)
-    }
-}
-
 // Each place is named for the last of the fields before it.
 fn fw_version_end(part: &[u8], at: usize) -> Result<usize, DecodeError>
     ensures { consumed result ≡ extent fw_version_layout part.now at }
 {
-    let minor = skip(part, at, 2)?;
+    let minor = packer::consume(part, at, 2)?;
     let hw_name = names::find_nul(part, minor, format::FW_VERSION_NAME_MAX_LEN)?;
-    let uuid = skip(part, hw_name, 12)?;
-    let nrf_flags = skip(part, uuid, 8)?;
+    let uuid = packer::consume(part, hw_name, 12)?;
+    let nrf_flags = packer::consume(part, uuid, 8)?;
     let fw_name = names::find_nul(part, nrf_flags, format::FW_VERSION_NAME_MAX_LEN)?;
-    skip(part, fw_name, 4)
+    packer::consume(part, fw_name, 4)
 }
 
 fn fw_info_end(part: &[u8], at: usize) -> Result<usize, DecodeError>
     ensures { consumed result ≡ extent fw_info_layout part.now at }
 {
-    let test_version_number = skip(part, at, 3)?;
+    let test_version_number = packer::consume(part, at, 3)?;
     let commit_hash = names::find_nul(
         part,
         test_version_number,
@@ -51,7 +38,7 @@ fn fw_info_end(part: &[u8], at: usize) -> Result<usize, DecodeError>
 fn get_values_end(part: &[u8], at: usize) -> Result<usize, DecodeError>
     ensures { consumed result ≡ extent get_values part.now at }
 {
-    skip(part, at, tables::span(Sort::Values, format::ALL_VALUES))
+    packer::consume(part, at, tables::span(Sort::Values, format::ALL_VALUES))
 }
 
 // The place after a mask and the fields that it has.
@@ -59,7 +46,7 @@ fn masked_end(part: &[u8], at: usize, sort: Sort) -> Result<usize, DecodeError>
     ensures { consumed result ≡ extent (masked (table_of sort) ∷ []) part.now at }
 {
     let (mask, next) = packer::unpack_u32(part, at)?;
-    skip(part, next, tables::span(sort, mask))
+    packer::consume(part, next, tables::span(sort, mask))
 }
 
 // The place after the fields that follow an id, which start at `at`.
