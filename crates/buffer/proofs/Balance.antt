@@ -3,7 +3,7 @@ use mathlib.Core.Path.{◌≡◌, refl, sym, ap, ◌∙◌, subst}
 use mathlib.Core.List.{List}
 use mathlib.Core.Bool.{Bool, true, false, cond}
 use mathlib.Core.Logic.{⊎_elim}
-use Prim.Native.Nat.{ℕ, ◌+◌, ◌-◌, ◌<◌, ◌≤◌}
+use Prim.Native.Nat.{ℕ, ◌+◌, ◌-◌, ◌<◌, ◌≤◌, min}
 use native.Mathlib.Omega.{arith}
 use native.Mathlib.Nat.{add-zero}
 use lib.Dec.{ltb, eqb}
@@ -12,26 +12,26 @@ use lib.Seq.{length-take-le}
 use Rattle.stream.specs.Reading.{Judge, Steady}
 use Rattle.stream.specs.Searching.{Search, found, nothing, size_found, search}
 use Rattle.stream.proofs.Search.{moved_over, rest_of, search-account}
-use Rattle.buffer.specs.Buffer.{Buffer, fresh, at_most, top, raised, at_front, moved, all_cleared, emptied, copied, feed_count, fed_buffer, gateway_count, gateway_buffer, buffer_after, next_count, next_buffer}
+use Rattle.buffer.specs.Buffer.{Buffer, fresh, top, raised, at_front, moved, all_cleared, emptied, copied, feed_count, fed_buffer, gateway_count, gateway_buffer, buffer_after, next_count, next_buffer}
 use Rattle.buffer.specs.Runs.{Calls, Totals, none_yet, with_feed, with_next, Reached, at_first, by-feed, by-reply, by-nothing}
-use Rattle.buffer.proofs.Figures.{capped, capped-under, raised-total}
+use Rattle.buffer.proofs.Figures.{raised-total}
 use Rattle.buffer.proofs.Feeding.{taken-most}
 use Rattle.buffer.proofs.Gateway.{goes, gateway-most}
 
 -- the figures of the buffer are what calls did in all, and every byte that was copied is accounted for
 pub record Tells (totals : Totals) (buffer : Buffer) : Type 0 where
-  pub fed : buffer.fed ≡ at_most top totals.bytes_copied
-  pub handed : buffer.handed ≡ at_most top totals.bytes_given
-  pub passed : buffer.passed ≡ at_most top totals.bytes_moved_over
-  pub cleared : buffer.cleared ≡ at_most top totals.bytes_cleared
+  pub fed : buffer.fed ≡ min totals.bytes_copied top
+  pub handed : buffer.handed ≡ min totals.bytes_given top
+  pub passed : buffer.passed ≡ min totals.bytes_moved_over top
+  pub cleared : buffer.cleared ≡ min totals.bytes_cleared top
   pub account : totals.bytes_copied ≡ totals.bytes_given + totals.bytes_moved_over + totals.bytes_cleared + length buffer.unread
 
 -- A total, n higher: so is its figure.
-rises : {figure : ℕ} (total n m : ℕ) → figure ≡ at_most top total → n ≡ m → raised figure n ≡ at_most top (total + m)
-rises total n m e same = ap (λ (k : ℕ). raised k n) e ∙ raised-total total n ∙ ap (λ (k : ℕ). at_most top (total + k)) same
+rises : {figure : ℕ} (total n m : ℕ) → figure ≡ min total top → n ≡ m → raised figure n ≡ min (total + m) top
+rises total n m e same = ap (λ (k : ℕ). raised k n) e ∙ raised-total total n ∙ ap (λ (k : ℕ). min (total + k) top) same
 
-stays : {figure : ℕ} (total : ℕ) → figure ≡ at_most top total → figure ≡ at_most top (total + 0)
-stays total e = e ∙ ap (λ (k : ℕ). at_most top k) (sym (add-zero total))
+stays : {figure : ℕ} (total : ℕ) → figure ≡ min total top → figure ≡ min (total + 0) top
+stays total e = e ∙ ap (λ (k : ℕ). min k top) (sym (add-zero total))
 
 -- ---- `feed`, part by part
 
@@ -89,7 +89,7 @@ feed-tells totals buffer piece t =
       fed = g.fed;
       handed = g.handed;
       passed = g.passed;
-      cleared = g.cleared ∙ ap (λ (k : ℕ). at_most top (totals.bytes_cleared + k)) gone;
+      cleared = g.cleared ∙ ap (λ (k : ℕ). min (totals.bytes_cleared + k) top) gone;
       account = omega (arith, g.account, gone);
     }
 
@@ -104,7 +104,7 @@ from-copied totals before after n t g =
       fed = g.fed;
       handed = g.handed;
       passed = g.passed;
-      cleared = stays totals.bytes_cleared g.cleared ∙ ap (λ (k : ℕ). at_most top (totals.bytes_cleared + k)) (sym none);
+      cleared = stays totals.bytes_cleared g.cleared ∙ ap (λ (k : ℕ). min (totals.bytes_cleared + k) top) (sym none);
       account = omega (arith, g.account, none);
     }
 
@@ -173,8 +173,4 @@ module _ {R : Type 0} (calls : Calls R) (buffer_of : calls.State → Buffer) (te
 pub balance : {totals : Totals} (buffer : Buffer) → Tells totals buffer → buffer.fed < top
     → buffer.fed ≡ buffer.handed + buffer.passed + buffer.cleared + length buffer.unread
 balance {totals} buffer t below =
-    let copied : at_most top totals.bytes_copied ≡ totals.bytes_copied = (capped top totals.bytes_copied).below (omega (arith, t.fed)) in
-    let given = capped-under top totals.bytes_given (omega (arith, t.fed, t.account)) in
-    let over = capped-under top totals.bytes_moved_over (omega (arith, t.fed, t.account)) in
-    let lost = capped-under top totals.bytes_cleared (omega (arith, t.fed, t.account)) in
     omega (arith, t.fed, t.handed, t.passed, t.cleared, t.account)

@@ -2,16 +2,15 @@
 use mathlib.Core.Path.{◌≡◌, refl, sym, ap, ◌∙◌}
 use mathlib.Core.List.{List, [], ◌++◌}
 use mathlib.Core.Bool.{Bool, true, false, cond, true≢false}
-use Prim.Native.Nat.{ℕ, ◌+◌, ◌-◌, ◌<◌, ◌≤◌}
+use Prim.Native.Nat.{ℕ, ◌+◌, ◌-◌, ◌<◌, ◌≤◌, min}
 use native.Mathlib.Omega.{arith}
-use native.Mathlib.Nat.{zero-add}
+use native.Mathlib.Nat.{zero-add, min-le_right}
 use borrow.Author.Tests.{ltb-false, lt-ltb, le-ltb, eq-eqb, ne_eqb, eqb-true}
 use lib.Dec.{ltb, eqb}
 use lib.ListN.{length, take, length-append}
 use lib.Seq.{length-take-le, take-length}
-use Rattle.buffer.specs.Buffer.{Buffer, at_most, at_front, moved, all_cleared, emptied, fitting, mark_fed, copied, feed_count, fed_buffer}
+use Rattle.buffer.specs.Buffer.{Buffer, at_front, moved, all_cleared, emptied, fitting, mark_fed, copied, feed_count, fed_buffer}
 use Rattle.buffer.specs.Clearing.{Clears, Keeps, Clearing}
-use Rattle.buffer.proofs.Figures.{capped, capped-under}
 
 -- Two buffers with the same fields.
 pub buffer-same : (a b : Buffer) → a.unread ≡ b.unread → a.wpos ≡ b.wpos → a.fed ≡ b.fed → a.handed ≡ b.handed → a.passed ≡ b.passed → a.cleared ≡ b.cleared
@@ -86,14 +85,13 @@ mark-stays n mark = by (eqb n 0) refl
 pub copied-fits : (piece : List ℕ) (buffer : Buffer) → Fits buffer → Fits (copied piece (fitting (length piece) buffer) buffer)
 unfolding fitting copied
 copied-fits piece buffer f =
-    let h = capped (512 - buffer.wpos) (length piece) in
-    let n = at_most (512 - buffer.wpos) (length piece) in
+    let n = min (512 - buffer.wpos) (length piece) in
     let size = length-append buffer.unread (take n piece) in
-    let taken = length-take-le n piece h.high in
+    let taken = length-take-le n piece (min-le_right _ _) in
     record {
       low = omega (arith, size, taken, f.low);
-      high = omega (arith, h.low, f.high);
-      few = λ e. let m = mark-stays (length piece) buffer.drained e in omega (arith, size, taken, h.high, m.0, f.few m.1);
+      high = omega (arith, f.high);
+      few = λ e. let m = mark-stays (length piece) buffer.drained e in omega (arith, size, taken, m.0, f.few m.1);
     }
 
 pub feed-fits : (buffer : Buffer) (piece : List ℕ) → Fits buffer → Fits (fed_buffer buffer piece)
@@ -122,7 +120,7 @@ free buffer n some short = free-by buffer n _ refl some short
 -- `feed` takes no more than is offered.
 pub taken-most : (buffer : Buffer) (piece : List ℕ) → feed_count buffer piece ≤ length piece
 unfolding feed_count fitting
-taken-most buffer piece = (capped (512 - (emptied (moved (length piece) buffer)).wpos) (length piece)).high
+taken-most buffer piece = min-le_right _ _
 
 -- ---- "So it clears (i) when 512 bytes lie unread, and (ii) on an empty piece when the tail is full, even if most bytes were read."
 
@@ -175,7 +173,7 @@ unfolding feed_count fitting
 taken buffer piece some short =
     let ready = emptied (moved (length piece) buffer) in
     let f = free buffer (length piece) some short in
-    record { keeps = clearing.not_full buffer piece short some; some = (capped (512 - ready.wpos) (length piece)).some (omega (arith, f.room)) some }
+    record { keeps = clearing.not_full buffer piece short some; some = omega (arith, f.room) }
 
 pub empty-clears : (buffer : Buffer) → buffer.wpos ≡ 512 → (feed_count buffer [] ≡ 0) × ((fed_buffer buffer []).unread ≡ []) × ((fed_buffer buffer []).wpos ≡ 0)
 unfolding fitting copied
@@ -188,7 +186,7 @@ pub empty-takes : (buffer : Buffer) (piece : List ℕ) → buffer.unread ≡ [] 
     → (feed_count buffer piece ≡ length piece) × ((fed_buffer buffer piece).unread ≡ piece) × ((fed_buffer buffer piece).wpos ≡ length piece)
 unfolding fitting copied
 empty-takes buffer piece none front fits =
-    let n : at_most (512 - buffer.wpos) (length piece) ≡ length piece = capped-under (512 - buffer.wpos) (length piece) (omega arith) in
+    let n : min (512 - buffer.wpos) (length piece) ≡ length piece = omega arith in
     let apart : buffer.wpos ≡ 512 → ⊥ = (λ q. omega arith) in
     let f = feed-from buffer piece buffer (ap emptied (moved-not (length piece) buffer (omega arith)) ∙ emptied-not buffer apart) in (
       f.0 ∙ n,

@@ -3,8 +3,9 @@ use mathlib.Core.Path.{◌≡◌, refl, sym, ap, ◌∙◌, subst}
 use mathlib.Core.Bool.{Bool, true, false, cond, true≢false}
 use mathlib.Core.List.{List, [], ◌++◌, append-nil}
 use mathlib.Core.Logic.{◌⊎◌, inl, inr, ⊎_elim}
-use Prim.Native.Nat.{ℕ, ◌+◌, ◌-◌, ◌<◌, ◌≤◌}
+use Prim.Native.Nat.{ℕ, ◌+◌, ◌-◌, ◌<◌, ◌≤◌, min}
 use native.Mathlib.Omega.{arith}
+use native.Mathlib.Nat.{min-le_right}
 use borrow.Author.Tests.{ltb-false, ne_eqb, eqb-false}
 use lib.Dec.{ltb, eqb}
 use lib.ListN.{length, take}
@@ -14,7 +15,6 @@ use Rattle.refusals.specs.Answers.{place_or}
 use Rattle.refusals.proofs.Different.{none}
 use Rattle.buffer.specs.Buffer.{Buffer, at_front, moved, emptied, fitting, copied, feed_count, fed_buffer, gateway_answer, gateway_count, gateway_buffer}
 use Rattle.buffer.specs.Gateway.{NeverClears, GatewayFeed}
-use Rattle.buffer.proofs.Figures.{capped, capped-under}
 use Rattle.buffer.proofs.Feeding.{Fits, moved-fits, copied-fits, moved-when, moved_same, emptied-not, mark-off, taken}
 
 -- a count is no refusal
@@ -81,7 +81,7 @@ module _ (buffer : Buffer) (piece : List ℕ) where
   -- It takes no more than is offered.
   pub gateway-most : gateway_count buffer piece ≤ length piece
   unfolding fitting
-  gateway-most = ⊎_elim (λ s. omega (arith, s.none)) (λ t. rw t.count (capped (512 - ready.wpos) (length piece)).high) goes
+  gateway-most = ⊎_elim (λ s. omega (arith, s.none)) (λ t. rw t.count (min-le_right _ _)) goes
 
   -- What was unread still is, with what was taken behind it.
   pub gateway-keeps : (gateway_buffer buffer piece).unread ≡ buffer.unread ++ take (gateway_count buffer piece) piece
@@ -139,7 +139,8 @@ module _ (buffer : Buffer) (piece : List ℕ) where
   unfolding fitting
   gateway-whole m end some room =
       let front = moved-when (length piece) buffer (omega arith) in
-      let all : fits ≡ length piece = ap (λ (l : Buffer). fitting (length piece) l) front ∙ capped-under (512 - length buffer.unread) (length piece) (omega arith) in
+      let full : min (512 - length buffer.unread) (length piece) ≡ length piece = omega arith in
+      let all : fits ≡ length piece = ap (λ (l : Buffer). fitting (length piece) l) front ∙ full in
       let n = ap (place_or 0) (gateway-takes (ne_eqb (length piece) 0 (λ q. omega arith)) m).0 ∙ all in
       (n, gateway-keeps ∙ ap (λ (k : ℕ). buffer.unread ++ take k piece) n ∙ ap (λ (l : List ℕ). buffer.unread ++ l) (take-length piece))
 

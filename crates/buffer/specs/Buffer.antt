@@ -1,6 +1,6 @@
 -- What a decoder holds, and what one `feed`, one gateway feed and one `next` do to it. Document 01, "The stream"; document 02, W3 and W12. Over any
 -- judge of bytes; the document's decoder has 512 bytes.
-use Rattle.std.specs.Prelude.{Bool, true, false, cond, List, [], ◌++◌, ℕ, ◌+◌, ◌-◌, ltb, eqb, length, take}
+use Rattle.std.specs.Prelude.{Bool, true, false, cond, List, [], ◌++◌, ℕ, ◌+◌, ◌-◌, min, ltb, eqb, length, take}
 use Rattle.refusals.specs.Refusals.{Answer, ok, refused, not_drained}
 use Rattle.refusals.specs.Answers.{place_or}
 use Rattle.format.specs.Format.{capacity}
@@ -21,17 +21,13 @@ pub record Buffer : Type 0 where
 abbrev pub fresh : Buffer
 fresh = record { unread = []; wpos = 0; fed = 0; handed = 0; passed = 0; cleared = 0; drained = true }
 
--- n, or `most` where n is above it
-abbrev pub at_most : ℕ → ℕ → ℕ
-at_most most n = cond (ltb most n) most n
-
 -- "64-bit, holding at the top value"
 abbrev pub top : ℕ
 top = 18446744073709551615
 
 -- a figure, n higher
 unfoldable pub raised : ℕ → ℕ → ℕ
-raised figure n = at_most top (figure + n)
+raised figure n = min (figure + n) top
 
 -- 1. `feed`
 
@@ -71,7 +67,7 @@ emptied buffer = cond (eqb buffer.wpos capacity) (all_cleared buffer) buffer
 
 -- "as much as fits"
 unfoldable pub fitting : ℕ → Buffer → ℕ
-fitting n buffer = at_most (capacity - buffer.wpos) n
+fitting n buffer = min (capacity - buffer.wpos) n
 
 -- the mark after a piece of n bytes, fed by either feed: a nonempty piece takes it away, an empty one leaves it as it is
 abbrev pub mark_fed : ℕ → Bool → Bool
