@@ -39,6 +39,15 @@ module _ {R : Type 0} (judge : Judge R) where
       by (found over n r after) e = let z : ◌≡◌ {A = ℕ} 0 1 = cc in absurd (omega arith)
       by (nothing over rest) e = refl
 
+  -- and the empty reply
+  pub nothing-reply : (empty : R) (buffer : Buffer) → next_given judge buffer ≡ false → next_reply judge empty buffer ≡ empty
+  unfolding next_given next_reply
+  nothing-reply empty buffer = by (search judge buffer.unread)
+    where
+      by : (s : Search R) → is_found s ≡ false → reply_found empty s ≡ empty
+      by (found over n r after) e = absurd (true≢false e)
+      by (nothing over rest) e = refl
+
   -- The place where the next byte is written stays.
   pub next-wpos : (buffer : Buffer) → (next_buffer judge buffer).wpos ≡ buffer.wpos
   unfolding next_buffer

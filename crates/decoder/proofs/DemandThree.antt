@@ -4,12 +4,12 @@ use mathlib.Core.Path.{◌≡◌, refl, sym, ap, ◌∙◌}
 use mathlib.Core.List.{List, [], ◌∷◌, ◌++◌, append-nil}
 use mathlib.Core.Bool.{Bool, true}
 use mathlib.Core.Logic.{inl, inr}
-use Prim.Native.Nat.{ℕ, ◌+◌, ◌<◌}
+use Prim.Native.Nat.{ℕ, ◌+◌, ◌<◌, min}
 use native.Mathlib.Omega.{arith}
 use lib.ListN.{length}
 use Rattle.stream.specs.Reading.{read_all, replies_of, joined}
 use Rattle.stream.specs.Lateness.{InTime}
-use Rattle.buffer.specs.Buffer.{at_most, top}
+use Rattle.buffer.specs.Buffer.{top}
 use Rattle.refusals.specs.Refusals.{ok}
 use Rattle.buffer.specs.Runs as runs
 use Rattle.buffer.specs.Runs.{EachPiece, Nonempty, Totals}
@@ -83,7 +83,7 @@ module _ {asked : Bool} {d : Decoder} (used : InUse asked d) where
   pub none-cleared : (figures : Figures) → figures ≡ figures_of (buffer_of d) → figures.cleared ≡ 0
   none-cleared figures is =
       let n = any-use.none-cleared decode_judge calls unread Waits faithful used in
-      ap (λ (f : Figures). f.cleared) is ∙ (told (reached-either (λ s t piece k. inl) n.reached)).cleared ∙ ap (λ (k : ℕ). at_most top k) n.none
+      ap (λ (f : Figures). f.cleared) is ∙ (told (reached-either (λ s t piece k. inl) n.reached)).cleared ∙ ap (λ (k : ℕ). min k top) n.none
 
 -- ---- demand 3 on the gateway's path
 

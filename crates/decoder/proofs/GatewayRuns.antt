@@ -7,6 +7,7 @@ use native.Mathlib.Omega.{arith}
 use borrow.Author.Tests.{ltb-true, ltb-false, eqb-true, eqb-false}
 use lib.Dec.{ltb, eqb}
 use lib.ListN.{length, take}
+use Rattle.refusals.specs.declared.FeedError.{FeedError}
 use Rattle.refusals.specs.declared.FeedError.TheVariants.{NotDrained}
 use Rattle.refusals.specs.Answers.{place_or}
 use Rattle.buffer.specs.Buffer.{Buffer, gateway_answer, gateway_count, gateway_buffer}
@@ -17,12 +18,11 @@ use Rattle.buffer.proofs.Runs.{Faithful, Able}
 use Rattle.buffer.proofs.AnyOrder.{Keeping}
 use Rattle.reply.specs.declared.CommandReply.{CommandReply}
 use Rattle.decoder.specs.declared.Decoder.{Decoder}
-use Rattle.decoder.specs.declared.Taken.{Taken}
-use Rattle.decoder.specs.declared.Taken.TheVariants.{Bytes, Refused}
+use Rattle.std.specs.Prelude.{Result, Ok, Err}
 use Rattle.decoder.specs.Judge.{decode_judge}
 use Rattle.decoder.specs.State.{buffer_of, Sound, BufferIs, taken_answer, GatewayFeedIs}
 use Rattle.decoder.specs.Runs.{GatewayTakes, gateway_calls, GatewayReached}
-use Rattle.decoder.proofs.States.{marked-buffer}
+use Rattle.decoder.proofs.States.{held-fields, marked-buffer}
 use Rattle.decoder.proofs.Gateway.{gateway-stays, gateway-copied}
 use Rattle.decoder.proofs.Runs.{unread, fits, holder, next-searches, next-answers, a-fresh-one}
 
@@ -50,7 +50,7 @@ gateway-faithful =
       next = next-searches _ _;
       fresh = λ h. ap (λ (l : Buffer). l.unread) h.is;
       first = λ h. ap (λ (l : Buffer). l.drained) h.is;
-      asked = λ {s} (count, reply, is). ap (λ (l : Buffer). l.drained) is.after.is ∙ next-mark decode_judge (buffer_of s) false (sym is.given);
+      asked = λ {s} is. ap (λ (l : Buffer). l.drained) is.after.is ∙ next-mark decode_judge (buffer_of s) false (sym is.given);
       feeds = λ {s} {t} {piece} {n} ready may f. took-unread s t piece n f;
       some = λ {s} {t} {piece} {n} ready some f.
           let never = never-clears (buffer_of s) piece ready ((fits s).few ready) some in
@@ -102,20 +102,20 @@ kept d = by (ltb 512 d.wpos) refl (ltb d.wpos d.rpos) refl (eqb (length d.buf) 5
 pub gateway-answers : (d : Decoder) (piece : List ℕ) → (e : Decoder) × GatewayTakes d piece (gateway_count (buffer_of d) piece) e
 gateway-answers d piece = by (eqb (length piece) 0) refl (marked d) refl
   where
-    answered : (answer : Taken) (e : Decoder) → GatewayFeedIs d piece (record { answer = answer; decoder = e }) → (e : Decoder) × GatewayTakes d piece (gateway_count (buffer_of d) piece) e
+    answered : (answer : Result ℕ FeedError) (e : Decoder) → GatewayFeedIs d piece (record { answer = answer; decoder = e }) → (e : Decoder) × GatewayTakes d piece (gateway_count (buffer_of d) piece) e
     answered answer e is = (e, (answer, ap (place_or 0) is.answer, is))
 
-    stays : (answer : Taken) → (gateway_answer (buffer_of d) piece ≡ taken_answer answer) × (gateway_buffer (buffer_of d) piece ≡ buffer_of d)
+    stays : (answer : Result ℕ FeedError) → (gateway_answer (buffer_of d) piece ≡ taken_answer answer) × (gateway_buffer (buffer_of d) piece ≡ buffer_of d)
         → (e : Decoder) × GatewayTakes d piece (gateway_count (buffer_of d) piece) e
-    stays answer g = let k = kept d in answered answer k.after (gateway-stays d piece answer k.after k.is k.same g)
+    stays answer g = let k = kept d in answered answer k.after (gateway-stays d piece answer k.after k.is.sound (held-fields _ k.after k.is) k.same g)
 
     by : (a : Bool) → eqb (length piece) 0 ≡ a → (m : Bool) → marked d ≡ m → (e : Decoder) × GatewayTakes d piece (gateway_count (buffer_of d) piece) e
-    by true e m h = stays (Bytes 0) (gateway-empty (buffer_of d) piece e)
+    by true e m h = stays (Ok 0) (gateway-empty (buffer_of d) piece e)
     by false e true h =
         let k = holder (gateway_buffer (buffer_of d) piece) (gateway-fits (buffer_of d) piece (fits d)) in
         let g = gateway-takes (buffer_of d) piece e h in
-        answered _ k.0 (gateway-copied d piece _ k.0 e h refl refl (record { is = k.1.is ∙ g.1; sound = k.1.sound }))
-    by false e false h = stays (Refused NotDrained) (gateway-refuses (buffer_of d) piece e h)
+        answered _ k.0 (gateway-copied d piece _ k.0 e h refl refl k.1.sound (held-fields _ k.0 k.1 ∙ g.1))
+    by false e false h = stays (Err NotDrained) (gateway-refuses (buffer_of d) piece e h)
 
 pub gateway-able : Able gateway_calls
 gateway-able =
@@ -135,7 +135,7 @@ any-sound : {Free : Type 0} {pieces ahead : List (List ℕ)} {taken : List ℕ} 
 any-sound (begins first) = first.sound
 any-sound (feeds order fed) = fed.2.after.sound
 any-sound (gives_one order gave) = gave.after.sound
-any-sound (gives_none order none) = none.2.after.sound
+any-sound (gives_none order none) = none.after.sound
 any-sound (cuts-anew other may order same) = any-sound order
 
 pub any-mark : {Free : Type 0} {pieces ahead : List (List ℕ)} {taken : List ℕ} {replies : List CommandReply} {d : Decoder}
@@ -156,4 +156,4 @@ reached-cleared (at_first first) = ap (λ (l : Buffer). l.cleared) first.is
 reached-cleared (by-feed {s = s} {piece = piece} reached fed) =
     ap (λ (l : Buffer). l.cleared) fed.2.after.is ∙ gateway-cleared (buffer_of s) piece ∙ reached-cleared reached
 reached-cleared (by-reply {s = s} reached gave) = ap (λ (l : Buffer). l.cleared) gave.after.is ∙ next-cleared decode_judge (buffer_of s) ∙ reached-cleared reached
-reached-cleared (by-nothing {s = s} reached none) = ap (λ (l : Buffer). l.cleared) none.2.after.is ∙ next-cleared decode_judge (buffer_of s) ∙ reached-cleared reached
+reached-cleared (by-nothing {s = s} reached none) = ap (λ (l : Buffer). l.cleared) none.after.is ∙ next-cleared decode_judge (buffer_of s) ∙ reached-cleared reached

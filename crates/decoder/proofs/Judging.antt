@@ -9,8 +9,7 @@ use Rattle.refusals.specs.declared.DecodeError.{DecodeError}
 use Rattle.refusals.specs.declared.DecodeError.TheVariants.{IncompleteData, InvalidFrame, UnknownPacket, ChecksumMismatch}
 use Rattle.refusals.specs.Refusals.{consumed}
 use Rattle.judge.specs.Judge.{judge_of}
-use Rattle.refusals.specs.declared.Consumed.{Consumed}
-use Rattle.refusals.specs.declared.Consumed.TheVariants.{To, Refused}
+use Rattle.std.specs.Prelude.{Result, Ok, Err}
 use Rattle.judge.proofs.Order.{no_start, start-wrong}
 use Rattle.judge.proofs.ResetStats.{frame-good}
 use Rattle.packer.specs.Numbers.{be_at}
@@ -91,12 +90,12 @@ other-number InvalidFrame other one = omega arith
 other-number (UnknownPacket id) other one = omega arith
 other-number (ChecksumMismatch expected actual) other one = omega arith
 
-module _ (l : List ℕ) (a : Consumed) (answers : consumed a ≡ judge_of l) where
-  pub answer-good : (count : ℕ) → a ≡ To count → decode_judge l ≡ good count (reply_in l)
+module _ (l : List ℕ) (a : Result ℕ DecodeError) (answers : consumed a ≡ judge_of l) where
+  pub answer-good : (count : ℕ) → a ≡ Ok count → decode_judge l ≡ good count (reply_in l)
   answer-good count e = decode-good l count (sym answers ∙ ap consumed e)
 
-  pub answer-waits : a ≡ Refused IncompleteData → decode_judge l ≡ not_yet
+  pub answer-waits : a ≡ Err IncompleteData → decode_judge l ≡ not_yet
   answer-waits e = decode-waits l (sym answers ∙ ap consumed e)
 
-  pub answer-moves : (error : DecodeError) → a ≡ Refused error → Other error → decode_judge l ≡ moves_on
+  pub answer-moves : (error : DecodeError) → a ≡ Err error → Other error → decode_judge l ≡ moves_on
   answer-moves error e other = decode-moves l (decode_refusal error) (sym answers ∙ ap consumed e) (other-number error other)

@@ -60,9 +60,9 @@ feeding-by Feeds count after-feed answers =
       any = λ piece. tt;
       feeds = answers;
       answers = next-answers _ _;
-      drains = λ {s} (count, reply, is). ap (λ (l : Buffer). l.drained) is.after.is ∙ next-mark decode_judge (buffer_of s) false (sym is.given);
+      drains = λ {s} is. ap (λ (l : Buffer). l.drained) is.after.is ∙ next-mark decode_judge (buffer_of s) false (sym is.given);
       gives = λ {s} is. ap (λ (l : Buffer). l.wpos) is.after.is ∙ next-wpos decode_judge (buffer_of s);
-      nothing = λ {s} (count, reply, is). ap (λ (l : Buffer). l.wpos) is.after.is ∙ next-wpos decode_judge (buffer_of s);
+      nothing = λ {s} is. ap (λ (l : Buffer). l.wpos) is.after.is ∙ next-wpos decode_judge (buffer_of s);
     }
 
 -- The figures of a decoder that calls of one feed made, where nothing is unread.

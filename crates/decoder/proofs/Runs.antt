@@ -14,7 +14,7 @@ use Rattle.stream.specs.Searching.{found, nothing}
 use Rattle.refusals.specs.Answers.{place_or}
 use Rattle.buffer.specs.Buffer.{Buffer, fresh, feed_count, fed_buffer, gateway_count, next_given, next_count, next_reply, next_buffer}
 use Rattle.buffer.proofs.Feeding.{Fits, Taken, feed-fits, taken-most, taken}
-use Rattle.buffer.proofs.Nexts.{next-gives, next-nothing, nothing-count, next_fits}
+use Rattle.buffer.proofs.Nexts.{next-gives, next-nothing, nothing-count, nothing-reply, next_fits}
 use Rattle.buffer.specs.Runs.{Answers, a-reply, no-reply}
 use Rattle.buffer.proofs.Runs.{Searches, Faithful, Able, nothing-more}
 use Rattle.buffer.specs.Runs as runs
@@ -64,7 +64,8 @@ holder buffer f =
     let size : length used ≡ buffer.wpos = simp (length-append, length-replicate) (omega arith) in
     let long : length (used ++ tail) ≡ 512 = simp (length-append, length-replicate) (omega arith) in
     let bytes : slice r buffer.wpos (used ++ tail) ≡ buffer.unread = ap (drop r) (take_at used tail buffer.wpos size) ∙ drop_at front buffer.unread r (length-replicate r 0) in
-    (d, holds buffer d (record { low = omega arith; high = f.high; long = long; few = λ q. omega (arith, f.low, f.few q) }) bytes refl refl refl refl refl refl)
+    (d, holds buffer d (record { low = omega arith; high = f.high; long = long; few = λ q. omega (arith, f.low, f.few q) })
+    (λ i. record { unread = bytes i; wpos = buffer.wpos; fed = buffer.fed; handed = buffer.handed; passed = buffer.passed; cleared = buffer.cleared; drained = buffer.drained }))
 
 -- `feed` of a piece with a byte, where `decode_judge` cannot tell more
 takes-in : (d : Decoder) (piece : List ℕ) → decode_judge (unread d) ≡ not_yet → 0 < length piece → Taken (buffer_of d) piece
@@ -81,14 +82,14 @@ module _ (Piece : List ℕ → Type 0) (Feeds : Decoder → List ℕ → ℕ →
         gives = λ {s} is.
             let n = next-gives decode_judge empty_reply (buffer_of s) (sym is.given) in
             (n.0, n.1 ∙ sym (λ i. found n.0 (is.count i) (is.reply i) (is.after.is i).unread));
-        nothing = λ {s} (count, reply, is).
+        nothing = λ {s} is.
             let n = next-nothing decode_judge empty_reply (buffer_of s) (sym is.given) in
             (n.0, n.1 ∙ ap (λ (l : Buffer). nothing n.0 l.unread) (sym is.after.is));
       }
 
   answers_by : (d : Decoder) (b : Bool) → next_given decode_judge (buffer_of d) ≡ b → (e : Decoder) → BufferIs (next_buffer decode_judge (buffer_of d)) e → Answers (calls_by Piece Feeds) d
   answers_by d true g e h = a-reply (record { given = sym g; count = refl; reply = refl; after = h })
-  answers_by d false g e h = no-reply (next_count decode_judge (buffer_of d), next_reply decode_judge empty_reply (buffer_of d), record { given = sym g; count = refl; reply = refl; after = h })
+  answers_by d false g e h = no-reply (record { given = sym g; count = sym (nothing-count decode_judge (buffer_of d) g); reply = sym (nothing-reply decode_judge empty_reply (buffer_of d) g); after = h })
 
   pub next-answers : (d : Decoder) → Answers (calls_by Piece Feeds) d
   next-answers d =
@@ -159,7 +160,7 @@ telling Piece =
       fresh = λ h. h.is;
       feeds = λ {s} {t} {piece} {n} f. ⊎_elim (feed-did s t piece n) (gateway-did s t piece n) f;
       gives = λ {s} {t} {n} is. next-did s t n is.count is.after.is;
-      nothing = λ {s} {t} (count, reply, is). next-did s t 0 (sym (nothing-count decode_judge (buffer_of s) (sym is.given))) is.after.is;
+      nothing = λ {s} {t} is. next-did s t 0 is.count is.after.is;
     }
 
 -- Calls of one feed are calls of either.
@@ -176,7 +177,7 @@ pub reached-sound : {totals : Totals} {d : Decoder} → Reached totals d → Sou
 reached-sound (at_first first) = first.sound
 reached-sound (by-feed reached feeds) = ⊎_elim (λ f. f.after.sound) (λ f. f.2.after.sound) feeds
 reached-sound (by-reply reached gave) = gave.after.sound
-reached-sound (by-nothing reached none) = none.2.after.sound
+reached-sound (by-nothing reached none) = none.after.sound
 
 pub figures-told : (totals : Totals) (buffer : Buffer) → Tells totals buffer → figures_of buffer ≡ figures_by totals (held_of buffer)
 figures-told totals buffer t = λ i. record { fed = t.fed i; handed = t.handed i; passed = t.passed i; cleared = t.cleared i; held = held_of buffer }

@@ -1,17 +1,19 @@
 -- The buffer that a decoder holds, by its fields; and after each part of `feed`.
 use mathlib.Core.Path.{◌≡◌, refl, sym, ap, ◌∙◌}
-use mathlib.Core.Bool.{Bool, true, false, ◌&&◌}
-use mathlib.Core.List.{List}
+use mathlib.Core.Bool.{Bool, true, false, cond, ◌&&◌}
+use mathlib.Core.List.{List, ◌++◌}
 use Prim.Native.Nat.{ℕ, ◌+◌, ◌-◌, ◌<◌, ◌≤◌}
 use native.Mathlib.Omega.{arith}
 use borrow.Author.Tests.{lt-ltb, le-ltb}
+use borrow.Rule.Slice.PartMut.{put_mid}
 use lib.Dec.{ltb}
 use lib.ListN.{length, take, drop, length-drop}
-use lib.Seq.{paste, length-paste, slice, length-slice}
-use Rattle.buffer.specs.Buffer.{Buffer, fresh, at_most, raised, moved, emptied, fitting, mark_fed, copied}
-use Rattle.buffer.proofs.Figures.{capped}
-use Rattle.buffer.proofs.Copying.{moved-slice, copied_slice}
-use Rattle.buffer.proofs.Feeding.{buffer-same, moved-when, moved-not, emptied-when, emptied-not, mark-stays}
+use lib.Seq.{slice, length-slice, length-take-le, drop-append-le}
+use Rattle.std.specs.List.{copy_within}
+use Rattle.std.proofs.lemmas.Slice.{take-put_mid}
+use Rattle.buffer.specs.Buffer.{Buffer, fresh, moved}
+use Rattle.buffer.proofs.Copying.{moved-slice}
+use Rattle.buffer.proofs.Feeding.{moved-when}
 use Rattle.names.proofs.Prefix.{drop-take}
 use Rattle.decoder.specs.declared.Decoder.{Decoder}
 use Rattle.decoder.specs.State.{buffer_of, fields_buffer, Sound, BufferIs}
@@ -40,106 +42,46 @@ unfolding buffer_of
 sound-buffer d s = simp (le-ltb _ _ s.high, le-ltb _ _ s.low, few-unread d _ refl s.few)
 
 -- A sound decoder holds the buffer that its fields say.
-pub holds : (buffer : Buffer) (d : Decoder) → Sound d → (fields_buffer d).unread ≡ buffer.unread → d.wpos ≡ buffer.wpos → d.fed ≡ buffer.fed → d.handed ≡ buffer.handed
-    → d.passed ≡ buffer.passed → d.cleared ≡ buffer.cleared → d.drained ≡ buffer.drained → BufferIs buffer d
-holds buffer d s u w f h p c m = record { is = sound-buffer d s ∙ buffer-same (fields_buffer d) buffer u w f h p c m; sound = s }
+pub holds : (buffer : Buffer) (d : Decoder) → Sound d → fields_buffer d ≡ buffer → BufferIs buffer d
+holds buffer d s e = record { is = sound-buffer d s ∙ e; sound = s }
+
+pub held-fields : (buffer : Buffer) (d : Decoder) → BufferIs buffer d → fields_buffer d ≡ buffer
+held-fields buffer d h = sym (sound-buffer d h.sound) ∙ h.is
 
 -- how many bytes are unread
 pub unread-length : (d : Decoder) → Sound d → length (fields_buffer d).unread ≡ d.wpos - d.rpos
 unread-length d s = length-slice d.rpos d.wpos d.buf (omega (arith, s.high, s.long))
 
--- the unread bytes, as they are lent
-pub lent-unread : (d : Decoder) → take (d.wpos - d.rpos) (drop d.rpos d.buf) ≡ (fields_buffer d).unread
-lent-unread d = sym (drop-take d.rpos d.wpos d.buf)
-
 -- ---- the parts of `feed`
 
-module _ (d e : Decoder) (s : Sound d) where
-  -- unread bytes moved to the front
-  pub moved_holds : (n : ℕ) → 512 - d.wpos < n → e.buf ≡ paste d.buf 0 (drop d.rpos d.buf) (d.wpos - d.rpos) → e.rpos ≡ 0
-      → e.wpos ≡ d.wpos - d.rpos → e.fed ≡ d.fed → e.handed ≡ d.handed → e.passed ≡ d.passed → e.cleared ≡ d.cleared → e.drained ≡ d.drained
-      → BufferIs (moved n (buffer_of d)) e
-  moved_holds n h eb er ew ef eh ep ec em =
-      let lo = s.low in
-      let hi = s.high in
-      let lg = s.long in
-      rw (sound-buffer d s, moved-when n (fields_buffer d) h)
-      (holds _ e
-      (record {
-        low = omega arith;
-        high = omega arith;
-        long =
-            ap length eb ∙ length-paste d.buf 0 (drop d.rpos d.buf) (d.wpos - d.rpos) (omega arith) (simp length-drop (omega arith)) ∙ lg;
-        few = λ q. omega (arith, s.few (sym em ∙ q));
-      })
-      ((λ i. slice (er i) (ew i) (eb i)) ∙ moved-slice d.buf d.rpos d.wpos lo (omega arith) ∙ lent-unread d)
-      (ew ∙ sym (unread-length d s))
-      ef
-      eh
-      ep
-      ec
-      em)
+-- unread bytes moved to the front
+pub moved-fields : (d : Decoder) (n : ℕ) → Sound d → 512 - d.wpos < n → (buf : List ℕ) → buf ≡ copy_within d.buf d.rpos d.wpos 0
+    → fields_buffer (record d { buf = buf; rpos = 0; wpos = d.wpos - d.rpos }) ≡ moved n (fields_buffer d)
+moved-fields d n s h buf e =
+    let bytes = ap (slice 0 (d.wpos - d.rpos)) e ∙ moved-slice d.buf d.rpos d.wpos s.low (omega (arith, s.high, s.long)) ∙ sym (drop-take d.rpos d.wpos d.buf) in
+    let size = sym (unread-length d s) in
+    (λ i. record { unread = bytes i; wpos = size i; fed = d.fed; handed = d.handed; passed = d.passed; cleared = d.cleared; drained = d.drained })
+    ∙ sym (moved-when n (fields_buffer d) h)
 
-  -- everything unread cleared
-  pub emptied-holds : d.wpos ≡ 512 → e.buf ≡ d.buf → e.rpos ≡ 0 → e.wpos ≡ 0 → e.fed ≡ d.fed → e.handed ≡ d.handed → e.passed ≡ d.passed
-      → e.cleared ≡ raised d.cleared (d.wpos - d.rpos) → e.drained ≡ d.drained → BufferIs (emptied (buffer_of d)) e
-  emptied-holds h eb er ew ef eh ep ec em =
-      rw (sound-buffer d s, emptied-when (fields_buffer d) h)
-      (holds _ e (record { low = omega arith; high = omega arith; long = ap length eb ∙ s.long; few = λ q. omega arith })
-      (λ i. slice (er i) (ew i) (eb i))
-      ew
-      ef
-      eh
-      ep
-      (ec ∙ ap (raised d.cleared) (sym (unread-length d s)))
-      em)
+-- n bytes of the piece copied behind them
+pub copied-unread : (d : Decoder) (part : List ℕ) (n k : ℕ) → Sound d → n ≡ length part
+    → slice d.rpos (d.wpos + n) (put_mid d.wpos k d.buf part) ≡ slice d.rpos d.wpos d.buf ++ part
+copied-unread d part n k s size =
+    let within : d.wpos ≤ length d.buf = omega (arith, s.high, s.long) in
+    ap (drop d.rpos) (take-put_mid d.wpos k d.buf part (d.wpos + n) (ap (λ (m : ℕ). d.wpos + m) size) within)
+    ∙ drop-append-le d.rpos (take d.wpos d.buf) part (rw (length-take-le d.wpos d.buf within) s.low)
 
-  -- n bytes of the piece copied
-  pub copied-holds : (piece : List ℕ) (n : ℕ) → n ≡ at_most (512 - d.wpos) (length piece) → e.buf ≡ paste d.buf d.wpos piece n → e.rpos ≡ d.rpos
-      → e.wpos ≡ d.wpos + n → e.fed ≡ raised d.fed n → e.handed ≡ d.handed → e.passed ≡ d.passed → e.cleared ≡ d.cleared
-      → e.drained ≡ mark_fed (length piece) d.drained → BufferIs (copied piece n (buffer_of d)) e
-  unfolding copied
-  copied-holds piece n c eb er ew ef eh ep ec em =
-      let lo = s.low in
-      let hi = s.high in
-      let lg = s.long in
-      let m = capped (512 - d.wpos) (length piece) in
-      let fits : n ≤ 512 - d.wpos = rw c m.low in
-      let most : n ≤ length piece = rw c m.high in
-      rw (sound-buffer d s)
-      (holds _ e
-      (record {
-        low = omega arith;
-        high = omega arith;
-        long = ap length eb ∙ length-paste d.buf d.wpos piece n (omega arith) most ∙ lg;
-        few = λ q. let k = mark-stays (length piece) d.drained (sym em ∙ q) in omega (arith, k.0, s.few k.1);
-      })
-      ((λ i. slice (er i) (ew i) (eb i)) ∙ copied_slice d.buf d.rpos d.wpos lo piece n (omega arith) most)
-      ew
-      ef
-      eh
-      ep
-      ec
-      em)
-
--- where nothing is to be moved or cleared
-pub unmoved-holds : (d : Decoder) (n : ℕ) → Sound d → n ≤ 512 - d.wpos → BufferIs (moved n (buffer_of d)) d
-unmoved-holds d n s h = record { is = sound-buffer d s ∙ sym (ap (moved n) (sound-buffer d s) ∙ moved-not n (fields_buffer d) h); sound = s }
-
-pub not-emptied-holds : (d : Decoder) → Sound d → (d.wpos ≡ 512 → ⊥) → BufferIs (emptied (buffer_of d)) d
-not-emptied-holds d s h = record { is = sound-buffer d s ∙ sym (ap emptied (sound-buffer d s) ∙ emptied-not (fields_buffer d) h); sound = s }
-
--- as much as fits
-pub fitting-buffer : (d : Decoder) (n : ℕ) → Sound d → at_most (512 - d.wpos) n ≡ fitting n (buffer_of d)
-unfolding fitting
-fitting-buffer d n s = sym (ap (λ (l : Buffer). at_most (512 - l.wpos) n) (sound-buffer d s))
+-- the mark after a piece
+pub mark-after : (mark none : Bool) → (mark && none) ≡ cond none mark false
+mark-after true true = refl
+mark-after true false = refl
+mark-after false true = refl
+mark-after false false = refl
 
 -- the mark
 pub marked-buffer : (d : Decoder) (buffer : Buffer) → BufferIs buffer d → d.drained ≡ buffer.drained
-marked-buffer d buffer h = ap (λ (l : Buffer). l.drained) (sym (sound-buffer d h.sound) ∙ h.is)
+marked-buffer d buffer h = ap (λ (l : Buffer). l.drained) (held-fields buffer d h)
 
 -- what is unread
 pub held-buffer : (d : Decoder) (buffer : Buffer) → BufferIs buffer d → d.wpos - d.rpos ≡ length buffer.unread
-held-buffer d buffer h =
-    let s = h.sound in
-    sym (unread-length d s) ∙ ap (λ (l : Buffer). length l.unread) (sym (sound-buffer d s) ∙ h.is)
+held-buffer d buffer h = sym (unread-length d h.sound) ∙ ap (λ (l : Buffer). length l.unread) (held-fields buffer d h)

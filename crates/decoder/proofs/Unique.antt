@@ -1,22 +1,23 @@
 -- What a call hands back is the only answer that meets its contract, up to the decoder's unused bytes.
 use mathlib.Core.Path.{◌≡◌, refl, sym, ap, ◌∙◌}
+use mathlib.Core.Bool.{Bool, true, false}
 use Prim.Native.Nat.{ℕ}
 use native.Mathlib.Omega.{arith}
-use Rattle.refusals.specs.Refusals.{Answer, ok, refused}
+use Rattle.std.specs.Prelude.{Option, Some, None}
+use Rattle.refusals.specs.Refusals.{feed_refusal}
 use Rattle.refusals.specs.OneAnswer.{ToldApart}
-use Rattle.refusals.proofs.Unique.{told-apart, feed_back, feed-back}
+use Rattle.refusals.proofs.Unique.{answer-back, feed_back, feed-back}
 use Rattle.buffer.specs.Buffer.{Buffer}
 use Rattle.buffer.proofs.Feeding.{buffer-same}
+use Rattle.reply.specs.declared.CommandReply.{CommandReply}
 use Rattle.decoder.specs.declared.Decoder.{Decoder}
-use Rattle.decoder.specs.declared.Taken.{Taken}
-use Rattle.decoder.specs.declared.Taken.TheVariants.{Bytes, Refused}
-use Rattle.decoder.specs.State.{fields_buffer, BufferIs, taken_answer}
+use Rattle.decoder.specs.State.{fields_buffer, BufferIs, taken_answer, is_given, count_given, reply_given}
 use Rattle.decoder.specs.OneAnswer.{UnusedApart, OneAnswer}
-use Rattle.decoder.proofs.States.{sound-buffer, held-buffer}
+use Rattle.decoder.proofs.States.{sound-buffer, held-fields, held-buffer}
 
 pub holds-unique : (buffer : Buffer) (d e : Decoder) → BufferIs buffer d → BufferIs buffer e → UnusedApart d e
 holds-unique buffer d e h k =
-    let same : fields_buffer d ≡ fields_buffer e = sym (sound-buffer d h.sound) ∙ h.is ∙ sym k.is ∙ sound-buffer e k.sound in
+    let same : fields_buffer d ≡ fields_buffer e = held-fields buffer d h ∙ sym (held-fields buffer e k) in
     let wpos : d.wpos ≡ e.wpos = ap (λ (l : Buffer). l.wpos) same in
     record {
       rpos = omega (arith, held-buffer d buffer h, held-buffer e buffer k, h.sound.low, k.sound.low);
@@ -29,17 +30,18 @@ holds-unique buffer d e h k =
       drained = ap (λ (l : Buffer). l.drained) same;
     }
 
-taken_again : Answer ℕ → Taken
-taken_again (ok count) = Bytes count
-taken_again (refused why) = Refused (feed_back why)
-
-taken_back : (a : Taken) → taken_again (taken_answer a) ≡ a
-unfolding taken_again
-taken_back (Bytes count) = refl
-taken_back (Refused e) = ap Refused (feed-back e)
-
 taken-unique : ToldApart taken_answer
-taken-unique = told-apart taken_answer taken_again taken_back
+taken-unique = answer-back feed_refusal feed_back feed-back
+
+-- what is given, by its three views
+frame_of : Bool → ℕ → CommandReply → Option (ℕ × CommandReply)
+frame_of true count reply = Some (count, reply)
+frame_of false count reply = None
+
+frame-of : (given : Option (ℕ × CommandReply)) → given ≡ frame_of (is_given given) (count_given given) (reply_given given)
+unfolding frame_of
+frame-of (Some frame) = refl
+frame-of None = refl
 
 pub one_answer : OneAnswer
 one_answer =
@@ -52,9 +54,7 @@ one_answer =
         holds-unique _ a.decoder b.decoder p.after q.after,
       );
       next = λ self a b p q. (
-        p.given ∙ sym q.given,
-        p.count ∙ sym q.count,
-        p.reply ∙ sym q.reply,
+        frame-of a.given ∙ (λ i. frame_of ((p.given ∙ sym q.given) i) ((p.count ∙ sym q.count) i) ((p.reply ∙ sym q.reply) i)) ∙ sym (frame-of b.given),
         holds-unique _ a.decoder b.decoder p.after q.after,
       );
       unused = λ d e s t u.

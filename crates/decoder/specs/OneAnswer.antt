@@ -28,6 +28,6 @@ pub record OneAnswer : Type 0 where
   pub gateway-feed : (self : Decoder) (piece : List ℕ) (a b : GatewayFed) → GatewayFeedIs self piece a → GatewayFeedIs self piece b
       → (a.answer ≡ b.answer) × UnusedApart a.decoder b.decoder
   pub next : (self : Decoder) (a b : Next) → NextIs self a → NextIs self b
-      → (a.given ≡ b.given) × (a.count ≡ b.count) × (a.reply ≡ b.reply) × UnusedApart a.decoder b.decoder
+      → (a.given ≡ b.given) × UnusedApart a.decoder b.decoder
   -- The unused bytes never matter: what a call hands back goes by the buffer, and that is the same
   pub unused : (d e : Decoder) → Sound d → Sound e → UnusedApart d e → buffer_of d ≡ buffer_of e

@@ -1,12 +1,12 @@
 -- Runs of the decoder: each call may return whatever its contract allows. Crate `buffer` defines a run.
-use Rattle.std.specs.Prelude.{Bool, true, false, List, ◌≡◌, ◌⊎◌, ℕ, ◌<◌, length}
+use Rattle.std.specs.Prelude.{Bool, List, ◌≡◌, ◌⊎◌, ℕ, ◌<◌, min, length, Some, None, Result}
 use Rattle.refusals.specs.Answers.{place_or}
-use Rattle.buffer.specs.Buffer.{fresh, at_most, top}
+use Rattle.buffer.specs.Buffer.{fresh, top}
 use Rattle.buffer.specs.Runs as runs
+use Rattle.refusals.specs.declared.FeedError.{FeedError}
 use Rattle.reply.specs.declared.CommandReply.{CommandReply}
 use Rattle.decoder.specs.declared.Decoder.{Decoder}
 use Rattle.decoder.specs.declared.Figures.{Figures}
-use Rattle.decoder.specs.declared.Taken.{Taken}
 use Rattle.decoder.specs.State.{buffer_of, BufferIs, FeedIs, taken_answer, GatewayFeedIs, NextIs}
 
 -- with any feed: the pieces that may be offered, and what of one is taken
@@ -17,8 +17,8 @@ calls_by Piece Feeds =
       Fresh = λ d. BufferIs fresh d;
       Piece = Piece;
       Feeds = Feeds;
-      Gives = λ d count reply e. NextIs d (record { given = true; count = count; reply = reply; decoder = e });
-      GivesNothing = λ d e. (count : ℕ) × (reply : CommandReply) × NextIs d (record { given = false; count = count; reply = reply; decoder = e });
+      Gives = λ d count reply e. NextIs d (record { given = Some (count, reply); decoder = e });
+      GivesNothing = λ d e. NextIs d (record { given = None; decoder = e });
     }
 
 abbrev pub FeedTakes : Decoder → List ℕ → ℕ → Decoder → Type 0
@@ -50,7 +50,7 @@ InUse = runs.InUse calls
 
 -- the gateway feed, and the bytes that it took: "A count beside a refusal is 0"
 abbrev pub GatewayTakes : Decoder → List ℕ → ℕ → Decoder → Type 0
-GatewayTakes d piece n e = (answer : Taken) × (place_or 0 (taken_answer answer) ≡ n) × GatewayFeedIs d piece (record { answer = answer; decoder = e })
+GatewayTakes d piece n e = (answer : Result ℕ FeedError) × (place_or 0 (taken_answer answer) ≡ n) × GatewayFeedIs d piece (record { answer = answer; decoder = e })
 
 -- any piece may be offered, an empty one too
 abbrev pub gateway_calls : runs.Calls CommandReply
@@ -89,9 +89,9 @@ Reached = runs.Reached (calls_by (λ piece. Unit) EitherTakes) (λ d. (buffer_of
 abbrev pub figures_by : runs.Totals → (held : ℕ) → Figures
 figures_by totals held =
     record {
-      fed = at_most top totals.bytes_copied;
-      handed = at_most top totals.bytes_given;
-      passed = at_most top totals.bytes_moved_over;
-      cleared = at_most top totals.bytes_cleared;
+      fed = min totals.bytes_copied top;
+      handed = min totals.bytes_given top;
+      passed = min totals.bytes_moved_over top;
+      cleared = min totals.bytes_cleared top;
       held = held;
     }

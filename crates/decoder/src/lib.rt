@@ -4,13 +4,11 @@
 // gateway that never clears (document 02, W12).
 #![tactic(auto)]
 
-ghost use Rattle.std.specs.Prelude.{◌≡◌, ◌+◌, ◌≤◌, length, drop};
-ghost use Rattle.std.proofs.Math.Seq.{paste};
-ghost use Rattle.format.specs.Format.{capacity};
+ghost use Rattle.std.specs.Prelude.{◌≡◌, length};
 ghost use Rattle.stream.specs.Searching.{search};
-ghost use Rattle.buffer.specs.Buffer.{fresh, at_most, raised, moved, emptied, fitting, mark_fed, copied};
+ghost use Rattle.buffer.specs.Buffer.{fresh, moved, emptied, fitting, copied};
 ghost use Rattle.decoder.specs.Judge.{decode_judge};
-ghost use Rattle.decoder.specs.State.{buffer_of, Sound, BufferIs, FeedIs, GatewayFeedIs, NextIs, held_of, figures_of, search_of};
+ghost use Rattle.decoder.specs.State.{fields_buffer, buffer_of, Sound, BufferIs, FeedIs, GatewayFeedIs, NextIs, held_of, figures_of, search_of};
 
 use refusals::{DecodeError, FeedError};
 use reply::CommandReply;
@@ -36,20 +34,17 @@ pub struct Fed {
     pub decoder: Decoder,
 }
 
-// How many bytes of a piece the gateway feed took, or why it took none.
-// The answer of `gateway_feed`.
+// The answer of `gateway_feed`: how many bytes of the piece it took, or why it took none.
 #[derive(Clone, Copy)]
 pub struct GatewayFed {
     pub answer: Result<usize, FeedError>,
     pub decoder: Decoder,
 }
 
-// The answer of `next`. Where nothing is given the count is 0 and the reply the empty one.
+// The answer of `next`: how many bytes the frame has that it gives, and the reply.
 #[derive(Clone, Copy)]
 pub struct Next {
-    pub given: bool,
-    pub count: usize,
-    pub reply: CommandReply,
+    pub given: Option<(usize, CommandReply)>,
     pub decoder: Decoder,
 }
 
@@ -63,92 +58,91 @@ pub struct Figures {
     pub held: u64,
 }
 
-// Where a search of the unread bytes ends: the bytes moved over, and the count of a good frame.
+// A decoder in a state that calls can make.
 #[derive(Clone, Copy)]
-enum Sought {
-    Found(usize, usize),
-    Nothing(usize),
+struct Settled {
+    decoder: Decoder,
+    ghost sound: { Sound decoder },
 }
 
-const TOP: u64 = 18446744073709551615;
-
-// A figure, `n` higher, held at the top value.
-fn raise(figure: u64, n: usize) -> u64
-    ensures { result ≡ raised figure n }
-{
-    let more = n as u64;
-    if TOP - figure < more {
-        TOP
-    } else {
-        figure + more
-    }
-}
-
-fn at_most(room: usize, n: usize) -> usize
-    ensures { result ≡ at_most room n }
-{
-    if room < n { room } else { n }
-}
-
-// The mark after a piece of so many bytes: an empty one leaves it as it is.
-fn mark_fed(drained: bool, offered: usize) -> bool
-    ensures { result ≡ mark_fed offered drained }
-{
-    if offered == 0 { drained } else { false }
-}
-
-// Moves `n` bytes from `from` to the front.
-fn move_to_front(buf: &mut [u8; format::CAPACITY], from: usize, n: usize)
-    requires { (length buf.old ≡ capacity) × (from + n ≤ capacity) }
-    ensures { buf.new ≡ paste buf.old 0 (drop from buf.old) n }
-{
-    let mut to: usize = 0;
-    while to < n {
-        buf[to] = buf[from + to];
-        to += 1;
-    }
-}
-
-// Writes the first `n` bytes of the piece at `at`.
-fn copy_in(buf: &mut [u8; format::CAPACITY], at: usize, piece: &[u8], n: usize)
-    requires { (length buf.old ≡ capacity) × (at + n ≤ capacity) × (n ≤ length piece.now) }
-    ensures { buf.new ≡ paste buf.old at piece.now n }
-{
-    let mut i: usize = 0;
-    while i < n {
-        buf[at + i] = piece[i];
-        i += 1;
-    }
-}
-
+// Where a search of the unread bytes ends: the bytes moved over, and the count of a good frame behind them.
 // A byte that starts no frame is not given to `judge`, so that noise costs a comparison.
-fn seek(unread: &[u8]) -> Sought
+fn seek(unread: &[u8]) -> (usize, Option<usize>)
     ensures { search_of unread.now result ≡ search decode_judge unread.now }
 {
-    let mut over: usize = 0;
-    while over < unread.len() {
-        if unread[over] == format::FRAME_START_SHORT {
+    for (over, byte) in unread.iter().enumerate() {
+        if *byte == format::FRAME_START_SHORT {
             match judge::judge(&unread[over..]) {
-                Ok(count) => return Sought::Found(over, count),
-                Err(error) => match error {
-                    DecodeError::IncompleteData => return Sought::Nothing(over),
-                    _ => {}
-                },
+                Ok(count) => return (over, Some(count)),
+                Err(DecodeError::IncompleteData) => return (over, None),
+                Err(_) => {}
             }
         }
-        over += 1;
     }
-    Sought::Nothing(over)
+    (unread.len(), None)
+}
+
+impl Settled {
+    // Where the piece is longer than the free tail, the unread bytes move to the front.
+    #[tactic(auto, unfolding(buffer::specs::Buffer::moved))]
+    fn moved(mut self, n: usize) -> Settled
+        ensures { fields_buffer result.decoder ≡ moved n (fields_buffer self.decoder) }
+    {
+        let decoder = &mut self.decoder;
+        if format::CAPACITY - decoder.wpos < n {
+            decoder.buf.copy_within(decoder.rpos..decoder.wpos, 0);
+            decoder.wpos -= decoder.rpos;
+            decoder.rpos = 0;
+        }
+        self
+    }
+
+    // As in the Rust, also where an empty piece is fed and the tail is full. The mark stays: only `next` sets it.
+    #[tactic(auto, unfolding(buffer::specs::Buffer::emptied, buffer::specs::Buffer::raised))]
+    fn emptied(mut self) -> Settled
+        ensures { fields_buffer result.decoder ≡ emptied (fields_buffer self.decoder) }
+    {
+        let unread = self.unread().len();
+        let decoder = &mut self.decoder;
+        if decoder.wpos == format::CAPACITY {
+            decoder.cleared = decoder.cleared.saturating_add(unread as u64);
+            decoder.rpos = 0;
+            decoder.wpos = 0;
+        }
+        self
+    }
+
+    // Copies as much of the piece as fits. An empty piece leaves the mark as it is.
+    #[tactic(auto, unfolding(buffer::specs::Buffer::copied, buffer::specs::Buffer::fitting, buffer::specs::Buffer::raised))]
+    fn copied(mut self, piece: &[u8]) -> (usize, Settled)
+        ensures count { result.0 ≡ fitting (length piece.now) (fields_buffer self.decoder) }
+        ensures buffer { fields_buffer result.1.decoder ≡ copied piece.now result.0 (fields_buffer self.decoder) }
+    {
+        let decoder = &mut self.decoder;
+        let wpos = decoder.wpos;
+        let count = (format::CAPACITY - wpos).min(piece.len());
+        decoder.buf[wpos..wpos + count].copy_from_slice(&piece[..count]);
+        decoder.wpos += count;
+        decoder.fed = decoder.fed.saturating_add(count as u64);
+        decoder.drained &= piece.is_empty();
+        (count, self)
+    }
+
+    fn unread(&self) -> &[u8]
+        ensures { result.now ≡ (fields_buffer self.now.decoder).unread }
+    {
+        &self.decoder.buf[self.decoder.rpos..self.decoder.wpos]
+    }
 }
 
 impl Decoder {
     // A fresh decoder: nothing is unread, and every figure is 0.
+    #[tactic(auto, unfolding(crate::specs::State::buffer_of))]
     pub fn new() -> Decoder
         ensures { BufferIs fresh result }
     {
-        let buf = [0u8; format::CAPACITY];
         Decoder {
-            buf,
+            buf: [0; format::CAPACITY],
             rpos: 0,
             wpos: 0,
             fed: 0,
@@ -160,75 +154,20 @@ impl Decoder {
     }
 
     // A state that no calls can make is taken as a fresh one.
-    fn settled(self) -> Decoder
-        ensures buffer_is { BufferIs (buffer_of self) result }
-        ensures value { Sound self → result ≡ self }
+    #[tactic(auto, unfolding(crate::specs::State::buffer_of))]
+    fn settled(self) -> Settled
+        ensures buffer { fields_buffer result.decoder ≡ buffer_of self }
+        ensures value { Sound self → result.decoder ≡ self }
     {
-        if format::CAPACITY < self.wpos {
-            return Decoder::new();
+        if format::CAPACITY < self.wpos
+            || self.wpos < self.rpos
+            || (self.drained && format::DRAINED_MOST < self.wpos - self.rpos)
+        {
+            return Settled {
+                decoder: Decoder::new(),
+            };
         }
-        if self.wpos < self.rpos {
-            return Decoder::new();
-        }
-        if self.drained {
-            if format::DRAINED_MOST < self.wpos - self.rpos {
-                return Decoder::new();
-            }
-        }
-        self
-    }
-
-    fn moved(mut self, n: usize) -> Decoder
-        requires { Sound self }
-        ensures { BufferIs (moved n (buffer_of self)) result }
-    {
-        let rpos = self.rpos;
-        let wpos = self.wpos;
-        if format::CAPACITY - wpos < n {
-            let unread = wpos - rpos;
-            move_to_front(&mut self.buf, rpos, unread);
-            self.rpos = 0;
-            self.wpos = unread;
-            return self;
-        }
-        self
-    }
-
-    // As in the Rust, also where an empty piece is fed and the tail is full. The mark stays: only `next` sets it.
-    fn emptied(mut self) -> Decoder
-        requires { Sound self }
-        ensures { BufferIs (emptied (buffer_of self)) result }
-    {
-        let rpos = self.rpos;
-        let wpos = self.wpos;
-        if wpos == format::CAPACITY {
-            let cleared = raise(self.cleared, wpos - rpos);
-            self.cleared = cleared;
-            self.rpos = 0;
-            self.wpos = 0;
-            return self;
-        }
-        self
-    }
-
-    fn copied(mut self, piece: &[u8]) -> Fed
-        requires { Sound self }
-        ensures count_value { result.count ≡ fitting (length piece.now) (buffer_of self) }
-        ensures buffer_is { BufferIs (copied piece.now result.count (buffer_of self)) result.decoder }
-    {
-        let wpos = self.wpos;
-        let offered = piece.len();
-        let taken = at_most(format::CAPACITY - wpos, offered);
-        copy_in(&mut self.buf, wpos, piece, taken);
-        let fed = raise(self.fed, taken);
-        let drained = mark_fed(self.drained, offered);
-        self.fed = fed;
-        self.wpos = wpos + taken;
-        self.drained = drained;
-        Fed {
-            count: taken,
-            decoder: self,
-        }
+        Settled { decoder: self }
     }
 
     // The Rust's `feed`. Takes as much of the piece as fits. What is not taken is to be fed again. Clears what
@@ -237,7 +176,11 @@ impl Decoder {
     pub fn feed(self, piece: &[u8]) -> Fed
         ensures { FeedIs self piece.now result }
     {
-        self.settled().moved(piece.len()).emptied().copied(piece)
+        let (count, fed) = self.settled().moved(piece.len()).emptied().copied(piece);
+        Fed {
+            count,
+            decoder: fed.decoder,
+        }
     }
 
     // The gateway's feed, which never clears. Takes as much of the piece as fits. What is not taken is to be fed
@@ -247,24 +190,23 @@ impl Decoder {
     pub fn gateway_feed(self, piece: &[u8]) -> GatewayFed
         ensures { GatewayFeedIs self piece.now result }
     {
-        let decoder = self.settled();
-        if piece.len() == 0 {
+        let settled = self.settled();
+        if piece.is_empty() {
             return GatewayFed {
                 answer: Ok(0),
-                decoder,
+                decoder: settled.decoder,
             };
         }
-        if !decoder.drained {
+        if !settled.decoder.drained {
             return GatewayFed {
                 answer: Err(FeedError::NotDrained),
-                decoder,
+                decoder: settled.decoder,
             };
         }
-        let fed = decoder.moved(piece.len()).copied(piece);
-        let after = fed.decoder;
+        let (count, fed) = settled.moved(piece.len()).copied(piece);
         GatewayFed {
-            answer: Ok(fed.count),
-            decoder: after,
+            answer: Ok(count),
+            decoder: fed.decoder,
         }
     }
 
@@ -272,37 +214,27 @@ impl Decoder {
     pub fn next(self) -> Next
         ensures { NextIs self result }
     {
-        let mut decoder = self.settled();
-        let buf = decoder.buf;
-        let rpos = decoder.rpos;
-        let wpos = decoder.wpos;
-        match seek(&buf[rpos..wpos]) {
-            Sought::Found(over, count) => {
-                let start = rpos + over;
-                let reply = reply::reply_in(&buf[start..wpos]);
-                let handed = raise(decoder.handed, count);
-                let passed = raise(decoder.passed, over);
-                decoder.handed = handed;
-                decoder.passed = passed;
-                decoder.rpos = start + count;
+        let settled = self.settled();
+        let mut decoder = settled.decoder;
+        let unread = settled.unread();
+        let (over, found) = seek(unread);
+        decoder.passed = decoder.passed.saturating_add(over as u64);
+        decoder.rpos += over;
+        match found {
+            Some(count) => {
+                let reply = reply::reply_in(&unread[over..]);
+                decoder.handed = decoder.handed.saturating_add(count as u64);
+                decoder.rpos += count;
                 decoder.drained = false;
                 Next {
-                    given: true,
-                    count,
-                    reply,
+                    given: Some((count, reply)),
                     decoder,
                 }
             }
-            Sought::Nothing(over) => {
-                let reply = reply::empty();
-                let passed = raise(decoder.passed, over);
-                decoder.passed = passed;
-                decoder.rpos = rpos + over;
+            None => {
                 decoder.drained = true;
                 Next {
-                    given: false,
-                    count: 0,
-                    reply,
+                    given: None,
                     decoder,
                 }
             }
@@ -313,23 +245,21 @@ impl Decoder {
     pub fn held(self) -> u64
         ensures { result ≡ held_of (buffer_of self) }
     {
-        let decoder = self.settled();
-        let unread = decoder.wpos - decoder.rpos;
-        unread as u64
+        self.settled().unread().len() as u64
     }
 
     // The line figures as they stand now.
     pub fn figures(self) -> Figures
         ensures { result ≡ figures_of (buffer_of self) }
     {
-        let decoder = self.settled();
-        let unread = decoder.wpos - decoder.rpos;
+        let settled = self.settled();
+        let decoder = settled.decoder;
         Figures {
             fed: decoder.fed,
             handed: decoder.handed,
             passed: decoder.passed,
             cleared: decoder.cleared,
-            held: unread as u64,
+            held: settled.unread().len() as u64,
         }
     }
 }

@@ -1,12 +1,7 @@
 -- `decoder::seek` meets its contract. The invariant: the search goes on from the bytes moved over.
-use Prim.Native.Nat.{◌-◌, ◌≤◌}
-use lib.ListN.{length}
 use Rattle.stream.proofs.Seeking.{SoFar}
 use Rattle.decoder.specs.Judge.{decode_judge}
 use Rattle.decoder.proofs.seek.Given as goal
 
 abbrev pub invariant-loop-over : goal.invariant-loop-over
-invariant-loop-over l = (l.over ≤ length l.unread) × SoFar decode_judge l.unread l.over
-
-abbrev pub decreases-loop-over : goal.decreases-loop-over
-decreases-loop-over l = length l.unread - l.over
+invariant-loop-over l = SoFar decode_judge l.unread l.over

@@ -1,38 +1,34 @@
 -- `decoder::Decoder::gateway_feed` meets its contract: by its two tests.
 use mathlib.Core.Path.{sym, ap, ◌∙◌}
-use borrow.Author.Tests.{eq-eqb, ne_eqb, not-true, not-false}
+use borrow.Author.Tests.{not-true, not-false}
 use lib.ListN.{length}
-use Rattle.buffer.specs.Buffer.{moved}
+use Rattle.buffer.specs.Buffer.{Buffer, moved}
 use Rattle.buffer.proofs.Gateway.{gateway-empty, gateway-refuses}
 use Rattle.decoder.specs.State.{buffer_of}
-use Rattle.decoder.proofs.States.{marked-buffer}
 use Rattle.decoder.proofs.Gateway.{gateway-stays, gateway-copied}
 use Rattle.decoder.proofs.Decoder.gateway_feed.Goals as goal
 
-pub returns-then-piece-eq0 : goal.returns-then-piece-eq0
-returns-then-piece-eq0 c =
-    let args = c.args in
-    let settled = c.settled-decoder in
-    gateway-stays args.self args.piece.now _ settled.result settled.ensures.buffer_is settled.ensures.value
-    (gateway-empty (buffer_of args.self) args.piece.now (eq-eqb _ _ c.if-piece-eq0.true))
+pub returns-then-is_empty : goal.returns-then-is_empty
+returns-then-is_empty c =
+    let settled = c.settled-settled in
+    gateway-stays c.args.self c.args.piece.now _ _ settled.result.sound settled.ensures.buffer settled.ensures.value
+    (gateway-empty (buffer_of c.args.self) c.args.piece.now (sym c.is_empty.ensures ∙ c.if-is_empty.true))
 
-pub returns-then-not-decoder : goal.returns-then-not-decoder
-returns-then-not-decoder c =
-    let args = c.args in
-    let settled = c.settled-decoder in
-    let unmarked = sym (marked-buffer settled.result _ settled.ensures.buffer_is) ∙ not-true _ c.if-not-decoder.true in
-    gateway-stays args.self args.piece.now _ settled.result settled.ensures.buffer_is settled.ensures.value
-    (gateway-refuses (buffer_of args.self) args.piece.now (ne_eqb _ _ c.if-piece-eq0.false) unmarked)
+pub returns-then-not-settled : goal.returns-then-not-settled
+returns-then-not-settled c =
+    let settled = c.settled-settled in
+    let unmarked = sym (ap (λ (l : Buffer). l.drained) settled.ensures.buffer) ∙ not-true _ c.if-not-settled.true in
+    gateway-stays c.args.self c.args.piece.now _ _ settled.result.sound settled.ensures.buffer settled.ensures.value
+    (gateway-refuses (buffer_of c.args.self) c.args.piece.now (sym c.is_empty.ensures ∙ c.if-is_empty.false) unmarked)
 
 pub returns : goal.returns
 returns c =
-    let args = c.args in
-    let settled = c.settled-decoder in
-    let piece = args.piece.now in
-    let marked = sym (marked-buffer settled.result _ settled.ensures.buffer_is) ∙ not-false _ c.if-not-decoder.false in
-    gateway-copied args.self piece c.copied-fed.result.count c.copied-fed.result.decoder
-    (ne_eqb _ _ c.if-piece-eq0.false)
-    marked
-    (c.moved.ensures.is ∙ ap (moved (length piece)) settled.ensures.buffer_is.is)
-    c.copied-fed.ensures.count_value
-    c.copied-fed.ensures.buffer_is
+    let settled = c.settled-settled in
+    let piece = c.args.piece.now in
+    gateway-copied c.args.self piece _ _
+    (sym c.is_empty.ensures ∙ c.if-is_empty.false)
+    (sym (ap (λ (l : Buffer). l.drained) settled.ensures.buffer) ∙ not-false _ c.if-not-settled.false)
+    (c.moved.ensures ∙ ap (moved (length piece)) settled.ensures.buffer)
+    c.copied-count.ensures.count
+    c.copied-count.result.1.sound
+    c.copied-count.ensures.buffer

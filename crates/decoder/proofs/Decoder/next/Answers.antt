@@ -1,38 +1,35 @@
 -- `decoder::Decoder::next` meets its contract: by where the search ended.
-use mathlib.Core.Path.{refl}
+use mathlib.Core.Path.{◌≡◌, sym, ap, ◌∙◌}
 use native.Mathlib.Omega.{arith}
-use Rattle.decoder.proofs.Seeking.{told, found-room, nothing-room, next-found, next-nothing}
+use Rattle.decoder.proofs.Seeking.{told, over-within, over-room, found-room, next-found, next-nothing}
 use Rattle.decoder.proofs.Decoder.next.Goals as goal
 
 -- A frame that was found lies within the unread bytes, and these within the array.
 
-pub overflow_add-start : goal.overflow_add-start
-overflow_add-start c = omega (arith, found-room c.settled-decoder.result c.settled-decoder.ensures.buffer_is.sound c.in-Found.over c.in-Found.count (told c.settled-decoder.result _ _ c.in-Found.is c.seek.ensures), c.settled-decoder.ensures.buffer_is.sound.high)
+pub overflow_add-decoder : goal.overflow_add-decoder
+overflow_add-decoder c =
+    let d = c.settled-settled.result in
+    omega (arith, over-room d.decoder d.sound _ c.unread-unread.ensures _ _ c.seek-over.ensures, d.sound.high)
 
 pub slice_bounds-reply_in-count : goal.slice_bounds-reply_in-count
-slice_bounds-reply_in-count c = omega (arith, found-room c.settled-decoder.result c.settled-decoder.ensures.buffer_is.sound c.in-Found.over c.in-Found.count (told c.settled-decoder.result _ _ c.in-Found.is c.seek.ensures), c.settled-decoder.ensures.buffer_is.sound.high)
+slice_bounds-reply_in-count c = over-within c.unread-unread.result.now _ _ c.seek-over.ensures
 
 pub slice_bounds-reply_in-start : goal.slice_bounds-reply_in-start
-slice_bounds-reply_in-start c = omega (arith, found-room c.settled-decoder.result c.settled-decoder.ensures.buffer_is.sound c.in-Found.over c.in-Found.count (told c.settled-decoder.result _ _ c.in-Found.is c.seek.ensures), c.settled-decoder.ensures.buffer_is.sound.high)
+slice_bounds-reply_in-start c = over-within c.unread-unread.result.now _ _ c.seek-over.ensures
 
-pub overflow_add-decoder : goal.overflow_add-decoder
-overflow_add-decoder c = omega (arith, found-room c.settled-decoder.result c.settled-decoder.ensures.buffer_is.sound c.in-Found.over c.in-Found.count (told c.settled-decoder.result _ _ c.in-Found.is c.seek.ensures), c.settled-decoder.ensures.buffer_is.sound.high)
+pub overflow_add-decoder-in-Some : goal.overflow_add-decoder-in-Some
+overflow_add-decoder-in-Some c =
+    let d = c.settled-settled.result in
+    omega (arith, found-room d.decoder d.sound _ c.unread-unread.ensures _ _ (told _ _ _ _ c.in-Some.is c.seek-over.ensures), d.sound.high)
 
-pub overflow_add-decoder-in-Nothing : goal.overflow_add-decoder-in-Nothing
-overflow_add-decoder-in-Nothing c =
-    let settled = c.settled-decoder in
-    omega (arith, nothing-room settled.result settled.ensures.buffer_is.sound c.in-Nothing.over (told settled.result _ _ c.in-Nothing.is c.seek.ensures))
+pub returns-in-Some : goal.returns-in-Some
+returns-in-Some c =
+    let d = c.settled-settled.result in
+    next-found d.decoder d.sound _ c.unread-unread.ensures c.args.self c.settled-settled.ensures.buffer _ _
+    (told _ _ _ _ c.in-Some.is c.seek-over.ensures) _ c.reply_in-reply.ensures _ _ c.saturating_add-in-Some.ensures c.saturating_add.ensures
 
-pub returns-in-Found : goal.returns-in-Found
-returns-in-Found c =
-    let settled = c.settled-decoder in
-    next-found _ settled.result settled.ensures.buffer_is _ refl refl refl refl c.in-Found.over c.in-Found.count
-    (told settled.result _ _ c.in-Found.is c.seek.ensures) refl refl
-    c.reply_in-reply.ensures refl c.raise-handed.ensures c.raise-passed.ensures refl
-
-pub returns-in-Nothing : goal.returns-in-Nothing
-returns-in-Nothing c =
-    let settled = c.settled-decoder in
-    next-nothing _ settled.result settled.ensures.buffer_is _ refl refl refl refl c.in-Nothing.over
-    (told settled.result _ _ c.in-Nothing.is c.seek.ensures) refl refl
-    c.empty-reply.ensures refl refl c.raise-passed-in-Nothing.ensures refl
+pub returns-in-None : goal.returns-in-None
+returns-in-None c =
+    let d = c.settled-settled.result in
+    next-nothing d.decoder d.sound _ c.unread-unread.ensures c.args.self c.settled-settled.ensures.buffer _
+    (told _ _ _ _ c.in-None.is c.seek-over.ensures) _ c.saturating_add.ensures
