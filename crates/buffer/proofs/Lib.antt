@@ -1,5 +1,4 @@
 pub mod Figures
-pub mod Copying
 pub mod Feeding
 pub mod Gateway
 pub mod Nexts

@@ -27,10 +27,10 @@ module _ (self : Decoder) (piece : List ℕ) where
       record { answer = sym a; after = holds _ d sound (held ∙ sym stays); unchanged = λ s none. same s }
 
   -- Of a nonempty piece, in a drained state, a byte or more is taken: `ready` is what was made ready for the copying.
-  pub gateway-copied : {ready : Buffer} (count : ℕ) (d : Decoder) → eqb (length piece) 0 ≡ false → (buffer_of self).drained ≡ true
+  pub gateway_copied : {ready : Buffer} (count : ℕ) (d : Decoder) → eqb (length piece) 0 ≡ false → (buffer_of self).drained ≡ true
       → ready ≡ moved (length piece) (buffer_of self) → count ≡ fitting (length piece) ready → Sound d → fields_buffer d ≡ copied piece count ready
       → GatewayFeedIs self piece (record { answer = Ok count; decoder = d })
-  gateway-copied count d some m same n sound held =
+  gateway_copied count d some m same n sound held =
       let apart : length piece ≡ 0 → ⊥ = eqb-false _ _ some in
       let never = never-clears (buffer_of self) piece m ((fits self).few m) (omega arith) in
       let g = gateway-takes (buffer_of self) piece some m in

@@ -22,8 +22,8 @@ use Rattle.std.specs.Prelude.{Result, Ok, Err}
 use Rattle.decoder.specs.Judge.{decode_judge}
 use Rattle.decoder.specs.State.{buffer_of, Sound, BufferIs, taken_answer, GatewayFeedIs}
 use Rattle.decoder.specs.Runs.{GatewayTakes, gateway_calls, GatewayReached}
-use Rattle.decoder.proofs.States.{held-fields, marked-buffer}
-use Rattle.decoder.proofs.Gateway.{gateway-stays, gateway-copied}
+use Rattle.decoder.proofs.States.{held_fields, marked-buffer}
+use Rattle.decoder.proofs.Gateway.{gateway-stays, gateway_copied}
 use Rattle.decoder.proofs.Runs.{unread, fits, holder, next-searches, next-answers, a-fresh-one}
 
 abbrev pub marked : Decoder → Bool
@@ -107,14 +107,14 @@ gateway-answers d piece = by (eqb (length piece) 0) refl (marked d) refl
 
     stays : (answer : Result ℕ FeedError) → (gateway_answer (buffer_of d) piece ≡ taken_answer answer) × (gateway_buffer (buffer_of d) piece ≡ buffer_of d)
         → (e : Decoder) × GatewayTakes d piece (gateway_count (buffer_of d) piece) e
-    stays answer g = let k = kept d in answered answer k.after (gateway-stays d piece answer k.after k.is.sound (held-fields _ k.after k.is) k.same g)
+    stays answer g = let k = kept d in answered answer k.after (gateway-stays d piece answer k.after k.is.sound (held_fields _ k.after k.is) k.same g)
 
     by : (a : Bool) → eqb (length piece) 0 ≡ a → (m : Bool) → marked d ≡ m → (e : Decoder) × GatewayTakes d piece (gateway_count (buffer_of d) piece) e
     by true e m h = stays (Ok 0) (gateway-empty (buffer_of d) piece e)
     by false e true h =
         let k = holder (gateway_buffer (buffer_of d) piece) (gateway-fits (buffer_of d) piece (fits d)) in
         let g = gateway-takes (buffer_of d) piece e h in
-        answered _ k.0 (gateway-copied d piece _ k.0 e h refl refl k.1.sound (held-fields _ k.0 k.1 ∙ g.1))
+        answered _ k.0 (gateway_copied d piece _ k.0 e h refl refl k.1.sound (held_fields _ k.0 k.1 ∙ g.1))
     by false e false h = stays (Err NotDrained) (gateway-refuses (buffer_of d) piece e h)
 
 pub gateway-able : Able gateway_calls

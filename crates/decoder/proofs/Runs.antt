@@ -12,7 +12,7 @@ use lib.Seq.{take_at, drop_at, slice}
 use Rattle.stream.specs.Reading.{not_yet}
 use Rattle.stream.specs.Searching.{found, nothing}
 use Rattle.refusals.specs.Answers.{place_or}
-use Rattle.buffer.specs.Buffer.{Buffer, fresh, feed_count, fed_buffer, gateway_count, next_given, next_count, next_reply, next_buffer}
+use Rattle.buffer.specs.Buffer.{Buffer, fresh, feed_count, fed_buffer, gateway_count, next_given, next_count, next_buffer}
 use Rattle.buffer.proofs.Feeding.{Fits, Taken, feed-fits, taken-most, taken}
 use Rattle.buffer.proofs.Nexts.{next-gives, next-nothing, nothing-count, nothing-reply, next_fits}
 use Rattle.buffer.specs.Runs.{Answers, a-reply, no-reply}
@@ -63,9 +63,11 @@ holder buffer f =
     let d : Decoder = record { buf = used ++ tail; rpos = r; wpos = buffer.wpos; fed = buffer.fed; handed = buffer.handed; passed = buffer.passed; cleared = buffer.cleared; drained = buffer.drained } in
     let size : length used ≡ buffer.wpos = simp (length-append, length-replicate) (omega arith) in
     let long : length (used ++ tail) ≡ 512 = simp (length-append, length-replicate) (omega arith) in
-    let bytes : slice r buffer.wpos (used ++ tail) ≡ buffer.unread = ap (drop r) (take_at used tail buffer.wpos size) ∙ drop_at front buffer.unread r (length-replicate r 0) in
-    (d, holds buffer d (record { low = omega arith; high = f.high; long = long; few = λ q. omega (arith, f.low, f.few q) })
-    (λ i. record { unread = bytes i; wpos = buffer.wpos; fed = buffer.fed; handed = buffer.handed; passed = buffer.passed; cleared = buffer.cleared; drained = buffer.drained }))
+    let bytes : slice r buffer.wpos (used ++ tail) ≡ buffer.unread = ap (drop r) (take_at used tail buffer.wpos size) ∙ drop_at front buffer.unread r (length-replicate r 0) in (
+      d,
+      holds buffer d (record { low = omega arith; high = f.high; long = long; few = λ q. omega (arith, f.low, f.few q) })
+          (λ i. record { unread = bytes i; wpos = buffer.wpos; fed = buffer.fed; handed = buffer.handed; passed = buffer.passed; cleared = buffer.cleared; drained = buffer.drained }),
+    )
 
 -- `feed` of a piece with a byte, where `decode_judge` cannot tell more
 takes-in : (d : Decoder) (piece : List ℕ) → decode_judge (unread d) ≡ not_yet → 0 < length piece → Taken (buffer_of d) piece

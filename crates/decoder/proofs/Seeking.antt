@@ -30,9 +30,9 @@ pub told : (u : List ℕ) (over : ℕ) (found variant : Option ℕ) → found �
 told u over found variant e ended = subst (Ended u over) e ended
 
 -- No more bytes are moved over than there are.
-pub over-within : (u : List ℕ) (over : ℕ) (found : Option ℕ) → Ended u over found → over ≤ length u
-over-within u over (Some count) e = omega (arith, found_within decode_judge decode-steady reply_in u over count e)
-over-within u over None e = nothing-within decode_judge decode-steady u over e
+pub over_within : (u : List ℕ) (ended : ℕ × Option ℕ) → search_of u ended ≡ search decode_judge u → ended.0 ≤ length u
+over_within u (over, Some count) e = omega (arith, found_within decode_judge decode-steady reply_in u over count e)
+over_within u (over, None) e = nothing-within decode_judge decode-steady u over e
 
 -- a decoder whose read position is further on
 abbrev on : Decoder → (rpos handed passed : ℕ) → Bool → Decoder
@@ -46,7 +46,7 @@ module _ (d : Decoder) (s : Sound d) (u : List ℕ) (lent : u ≡ (fields_buffer
 
   -- Its read position stays within, behind bytes moved over and behind a frame.
   pub over-room : (over : ℕ) (found : Option ℕ) → Ended u over found → d.rpos + over ≤ d.wpos
-  over-room over found e = omega (arith, over-within u over found e, size, s.low)
+  over-room over found e = omega (arith, over_within u (over, found) e, size, s.low)
 
   pub found-room : (over count : ℕ) → Ended u over (Some count) → d.rpos + over + count ≤ d.wpos
   found-room over count e = omega (arith, found_within decode_judge decode-steady reply_in u over count e, size, s.low)
@@ -85,15 +85,15 @@ module _ (d : Decoder) (s : Sound d) (u : List ℕ) (lent : u ≡ (fields_buffer
         next-is (found_at reply_in u over count) e _ refl refl (is ∙ ap reply_in (lent-rest u over))
         (further-sound (over + count) _ handed passed false at fits (λ q. absurd (true≢false (sym q))))
         (λ i.
-            record {
-              unread = further-unread (over + count) _ at i;
-              wpos = d.wpos;
-              fed = d.fed;
-              handed = eh i;
-              passed = ep i;
-              cleared = d.cleared;
-              drained = false;
-            })
+        record {
+          unread = further-unread (over + count) _ at i;
+          wpos = d.wpos;
+          fed = d.fed;
+          handed = eh i;
+          passed = ep i;
+          cleared = d.cleared;
+          drained = false;
+        })
 
     pub next-nothing : (over : ℕ) → Ended u over None → (passed : ℕ) → passed ≡ min (d.passed + over) top
         → NextIs self (record { given = None; decoder = on d (d.rpos + over) d.handed passed true })
@@ -105,12 +105,12 @@ module _ (d : Decoder) (s : Sound d) (u : List ℕ) (lent : u ≡ (fields_buffer
         next-is (nothing_at u over) e _ refl refl refl
         (further-sound over _ d.handed passed true refl (over-room over None e) (λ q. few))
         (λ i.
-            record {
-              unread = further-unread over _ refl i;
-              wpos = d.wpos;
-              fed = d.fed;
-              handed = d.handed;
-              passed = ep i;
-              cleared = d.cleared;
-              drained = true;
-            })
+        record {
+          unread = further-unread over _ refl i;
+          wpos = d.wpos;
+          fed = d.fed;
+          handed = d.handed;
+          passed = ep i;
+          cleared = d.cleared;
+          drained = true;
+        })

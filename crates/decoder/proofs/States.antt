@@ -8,11 +8,11 @@ use borrow.Author.Tests.{lt-ltb, le-ltb}
 use borrow.Rule.Slice.PartMut.{put_mid}
 use lib.Dec.{ltb}
 use lib.ListN.{length, take, drop, length-drop}
-use lib.Seq.{slice, length-slice, length-take-le, drop-append-le}
+use native.Mathlib.Nat.{zero-add}
+use lib.Seq.{slice, length-slice, take-paste, length-take-le, drop-append-le}
 use Rattle.std.specs.List.{copy_within}
 use Rattle.std.proofs.lemmas.Slice.{take-put_mid}
 use Rattle.buffer.specs.Buffer.{Buffer, fresh, moved}
-use Rattle.buffer.proofs.Copying.{moved-slice}
 use Rattle.buffer.proofs.Feeding.{moved-when}
 use Rattle.names.proofs.Prefix.{drop-take}
 use Rattle.decoder.specs.declared.Decoder.{Decoder}
@@ -45,8 +45,8 @@ sound-buffer d s = simp (le-ltb _ _ s.high, le-ltb _ _ s.low, few-unread d _ ref
 pub holds : (buffer : Buffer) (d : Decoder) → Sound d → fields_buffer d ≡ buffer → BufferIs buffer d
 holds buffer d s e = record { is = sound-buffer d s ∙ e; sound = s }
 
-pub held-fields : (buffer : Buffer) (d : Decoder) → BufferIs buffer d → fields_buffer d ≡ buffer
-held-fields buffer d h = sym (sound-buffer d h.sound) ∙ h.is
+pub held_fields : (buffer : Buffer) (d : Decoder) → BufferIs buffer d → fields_buffer d ≡ buffer
+held_fields buffer d h = sym (sound-buffer d h.sound) ∙ h.is
 
 -- how many bytes are unread
 pub unread-length : (d : Decoder) → Sound d → length (fields_buffer d).unread ≡ d.wpos - d.rpos
@@ -54,11 +54,16 @@ unread-length d s = length-slice d.rpos d.wpos d.buf (omega (arith, s.high, s.lo
 
 -- ---- the parts of `feed`
 
+-- the bytes from position r to position w, moved to the front
+moved-slice : (b : List ℕ) (r w : ℕ) → w ≤ length b → slice 0 (w - r) (copy_within b r w 0) ≡ take (w - r) (drop r b)
+moved-slice b r w high =
+    ap (λ (n : ℕ). take n (copy_within b r w 0)) (sym (zero-add (w - r))) ∙ take-paste b 0 (drop r b) (w - r) (omega arith) (simp length-drop (omega arith))
+
 -- unread bytes moved to the front
-pub moved-fields : (d : Decoder) (n : ℕ) → Sound d → 512 - d.wpos < n → (buf : List ℕ) → buf ≡ copy_within d.buf d.rpos d.wpos 0
+pub moved_fields : (d : Decoder) (n : ℕ) → Sound d → 512 - d.wpos < n → (buf : List ℕ) → buf ≡ copy_within d.buf d.rpos d.wpos 0
     → fields_buffer (record d { buf = buf; rpos = 0; wpos = d.wpos - d.rpos }) ≡ moved n (fields_buffer d)
-moved-fields d n s h buf e =
-    let bytes = ap (slice 0 (d.wpos - d.rpos)) e ∙ moved-slice d.buf d.rpos d.wpos s.low (omega (arith, s.high, s.long)) ∙ sym (drop-take d.rpos d.wpos d.buf) in
+moved_fields d n s h buf e =
+    let bytes = ap (slice 0 (d.wpos - d.rpos)) e ∙ moved-slice d.buf d.rpos d.wpos (omega (arith, s.high, s.long)) ∙ sym (drop-take d.rpos d.wpos d.buf) in
     let size = sym (unread-length d s) in
     (λ i. record { unread = bytes i; wpos = size i; fed = d.fed; handed = d.handed; passed = d.passed; cleared = d.cleared; drained = d.drained })
     ∙ sym (moved-when n (fields_buffer d) h)
@@ -80,8 +85,8 @@ mark-after false false = refl
 
 -- the mark
 pub marked-buffer : (d : Decoder) (buffer : Buffer) → BufferIs buffer d → d.drained ≡ buffer.drained
-marked-buffer d buffer h = ap (λ (l : Buffer). l.drained) (held-fields buffer d h)
+marked-buffer d buffer h = ap (λ (l : Buffer). l.drained) (held_fields buffer d h)
 
 -- what is unread
 pub held-buffer : (d : Decoder) (buffer : Buffer) → BufferIs buffer d → d.wpos - d.rpos ≡ length buffer.unread
-held-buffer d buffer h = sym (unread-length d h.sound) ∙ ap (λ (l : Buffer). length l.unread) (held-fields buffer d h)
+held-buffer d buffer h = sym (unread-length d h.sound) ∙ ap (λ (l : Buffer). length l.unread) (held_fields buffer d h)

@@ -13,11 +13,11 @@ use Rattle.reply.specs.declared.CommandReply.{CommandReply}
 use Rattle.decoder.specs.declared.Decoder.{Decoder}
 use Rattle.decoder.specs.State.{fields_buffer, BufferIs, taken_answer, is_given, count_given, reply_given}
 use Rattle.decoder.specs.OneAnswer.{UnusedApart, OneAnswer}
-use Rattle.decoder.proofs.States.{sound-buffer, held-fields, held-buffer}
+use Rattle.decoder.proofs.States.{sound-buffer, held_fields, held-buffer}
 
 pub holds-unique : (buffer : Buffer) (d e : Decoder) → BufferIs buffer d → BufferIs buffer e → UnusedApart d e
 holds-unique buffer d e h k =
-    let same : fields_buffer d ≡ fields_buffer e = held-fields buffer d h ∙ sym (held-fields buffer e k) in
+    let same : fields_buffer d ≡ fields_buffer e = held_fields buffer d h ∙ sym (held_fields buffer e k) in
     let wpos : d.wpos ≡ e.wpos = ap (λ (l : Buffer). l.wpos) same in
     record {
       rpos = omega (arith, held-buffer d buffer h, held-buffer e buffer k, h.sound.low, k.sound.low);

@@ -84,7 +84,7 @@ fn seek(unread: &[u8]) -> (usize, Option<usize>)
 
 impl Settled {
     // Where the piece is longer than the free tail, the unread bytes move to the front.
-    #[tactic(auto, unfolding(buffer::specs::Buffer::moved))]
+    #[tactic(auto, using(crate::proofs::States::moved_fields), unfolding(buffer::specs::Buffer::moved))]
     fn moved(mut self, n: usize) -> Settled
         ensures { fields_buffer result.decoder ≡ moved n (fields_buffer self.decoder) }
     {
@@ -102,9 +102,9 @@ impl Settled {
     fn emptied(mut self) -> Settled
         ensures { fields_buffer result.decoder ≡ emptied (fields_buffer self.decoder) }
     {
-        let unread = self.unread().len();
-        let decoder = &mut self.decoder;
-        if decoder.wpos == format::CAPACITY {
+        if self.decoder.wpos == format::CAPACITY {
+            let unread = self.unread().len();
+            let decoder = &mut self.decoder;
             decoder.cleared = decoder.cleared.saturating_add(unread as u64);
             decoder.rpos = 0;
             decoder.wpos = 0;
@@ -173,6 +173,7 @@ impl Decoder {
     // The Rust's `feed`. Takes as much of the piece as fits. What is not taken is to be fed again. Clears what
     // is unread when 512 bytes lie unread, and on an empty piece when the tail is full: never feed an empty
     // piece. The figure `cleared` counts what was lost so. `gateway_feed` loses nothing.
+    #[tactic(auto, using(crate::proofs::States::holds), unfolding(buffer::specs::Buffer::feed_count, buffer::specs::Buffer::fed_buffer))]
     pub fn feed(self, piece: &[u8]) -> Fed
         ensures { FeedIs self piece.now result }
     {
@@ -187,6 +188,7 @@ impl Decoder {
     // again. An empty piece changes nothing. If the decoder is not drained, a nonempty piece is refused and
     // nothing changes: call `next` until it gives nothing, then feed again. A drained decoder has at most 109
     // bytes unread, so there is room for a byte or more once they are at the front.
+    #[tactic(auto, using(crate::proofs::States::holds), unfolding(buffer::specs::Buffer::gateway_answer, buffer::specs::Buffer::gateway_buffer))]
     pub fn gateway_feed(self, piece: &[u8]) -> GatewayFed
         ensures { GatewayFeedIs self piece.now result }
     {
@@ -203,14 +205,15 @@ impl Decoder {
                 decoder: settled.decoder,
             };
         }
-        let (count, fed) = settled.moved(piece.len()).copied(piece);
+        let (count, after) = settled.moved(piece.len()).copied(piece);
         GatewayFed {
             answer: Ok(count),
-            decoder: fed.decoder,
+            decoder: after.decoder,
         }
     }
 
     // The next reply among the unread bytes, if a whole frame is there.
+    #[tactic(auto, using(crate::proofs::Seeking::over_within))]
     pub fn next(self) -> Next
         ensures { NextIs self result }
     {

@@ -5,15 +5,12 @@ use borrow.Author.Rules.{rules}
 use lib.ListN.{length, drop}
 use Rattle.std.specs.Prelude.{Err}
 use Rattle.judge.specs.Judge.{judge_of}
-use Rattle.stream.proofs.Seeking.{lent-rest, seek-starts, seek-moves, seek_found, seek-waits, seek-ends, seek-start}
+use Rattle.stream.proofs.Seeking.{lent-rest, seek-moves, seek_found, seek-waits, seek-ends, seek-start}
 use Rattle.reply.specs.Decode.{reply_in}
 use Rattle.decoder.specs.Judge.{decode_judge}
 use Rattle.decoder.proofs.Judging.{decode-steady, decode-noise, answer-good, answer-waits, answer-moves}
 use Rattle.decoder.proofs.seek.Goals.{then-byte-eq-FRAME_START_SHORT+in-Err, else-byte-eq-FRAME_START_SHORT}
 use Rattle.decoder.proofs.seek.Goals as goal
-
-pub loop-over-init : goal.loop-over-init
-loop-over-init c = seek-starts decode_judge decode-steady c.args.unread.now
 
 pub returns-in-Ok : goal.returns-in-Ok
 returns-in-Ok c =

@@ -1,7 +1,6 @@
 -- `decoder::Decoder::next` meets its contract: by where the search ended.
-use mathlib.Core.Path.{◌≡◌, sym, ap, ◌∙◌}
 use native.Mathlib.Omega.{arith}
-use Rattle.decoder.proofs.Seeking.{told, over-within, over-room, found-room, next-found, next-nothing}
+use Rattle.decoder.proofs.Seeking.{told, over-room, found-room, next-found, next-nothing}
 use Rattle.decoder.proofs.Decoder.next.Goals as goal
 
 -- A frame that was found lies within the unread bytes, and these within the array.
@@ -10,12 +9,6 @@ pub overflow_add-decoder : goal.overflow_add-decoder
 overflow_add-decoder c =
     let d = c.settled-settled.result in
     omega (arith, over-room d.decoder d.sound _ c.unread-unread.ensures _ _ c.seek-over.ensures, d.sound.high)
-
-pub slice_bounds-reply_in-count : goal.slice_bounds-reply_in-count
-slice_bounds-reply_in-count c = over-within c.unread-unread.result.now _ _ c.seek-over.ensures
-
-pub slice_bounds-reply_in-start : goal.slice_bounds-reply_in-start
-slice_bounds-reply_in-start c = over-within c.unread-unread.result.now _ _ c.seek-over.ensures
 
 pub overflow_add-decoder-in-Some : goal.overflow_add-decoder-in-Some
 overflow_add-decoder-in-Some c =

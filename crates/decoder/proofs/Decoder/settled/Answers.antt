@@ -2,13 +2,13 @@
 use mathlib.Core.Path.{sym, ◌∙◌}
 use mathlib.Core.Bool.{true≢false}
 use borrow.Author.Tests.{ltb-true}
-use Rattle.decoder.proofs.States.{held-fields, past-end-fresh, past-write-fresh, many-unread-fresh}
+use Rattle.decoder.proofs.States.{held_fields, past-end-fresh, past-write-fresh, many-unread-fresh}
 use Rattle.decoder.proofs.Decoder.settled.Goals.{then-self-gt-CAPACITY-via-then-self-gt-CAPACITY, then-self-gt-CAPACITY-via-else-self-gt-CAPACITY+then-self, then-self-gt-CAPACITY-via-else-self-gt-CAPACITY+else-self+then-self-gt-DRAINED_MOST, then-self-2, else-self-2}
 use Rattle.decoder.proofs.Decoder.settled.Goals as goal
 
 pub returns-then-self-gt-CAPACITY-clause-buffer : goal.returns-then-self-gt-CAPACITY-clause-buffer
 returns-then-self-gt-CAPACITY-clause-buffer c =
-    held-fields _ _ c.new.ensures
+    held_fields _ _ c.new.ensures
     ∙ sym (elim c.then-self-gt-CAPACITY.branch [
       | then-self-gt-CAPACITY-via-then-self-gt-CAPACITY w ↦ past-end-fresh _ w.if-self-gt-CAPACITY.true
       | then-self-gt-CAPACITY-via-else-self-gt-CAPACITY+then-self w ↦ past-write-fresh _ w.if-self-gt-CAPACITY.false w.if-self.true
