@@ -1,29 +1,20 @@
--- A turn of each loop, and its end: what is left to do, from the register as it is, gives the answer.
-use mathlib.Core.Path.{◌≡◌}
-use mathlib.Core.List.{List}
-use Prim.Native.Nat.{ℕ, zero, suc, ◌+◌, ◌-◌, ◌<◌, ◌≤◌}
-use native.Mathlib.Numerals.{add-one}
+-- A turn of each walk: what is left to do, from the register as it is, gives the answer; or what the bytes so far have made of it.
+use mathlib.Core.Path.{◌≡◌, ap, ◌∙◌}
+use mathlib.Core.List.{List, [], ◌∷◌, ◌++◌}
+use Prim.Native.Nat.{ℕ, suc, ◌+◌, ◌-◌, ◌<◌}
 use native.Mathlib.Omega.{arith}
-use lib.ListN.{length, get_or, drop, drop_of_length-le}
-use lib.Seq.{drop-cons}
-use Rattle.checksum.specs.Xmodem.{step_of, steps_of, byte_in_of, register_from, register_of}
+use Rattle.checksum.specs.Xmodem.{step_of, steps_of, byte_in_of, register_from}
+use Rattle.checksum.proofs.Pieces.{pieces}
 
-pub step-more : (left register next answer : ℕ) → 0 < left → next ≡ step_of register → steps_of left register ≡ answer → steps_of (left - 1) next ≡ answer
+-- one of eight steps
+pub step-more : (done register next answer : ℕ) → done < 8 → next ≡ step_of register → steps_of (8 - done) register ≡ answer
+    → steps_of (8 - (done + 1)) next ≡ answer
 unfolding steps_of
-step-more zero register next answer h e inv = absurd (omega arith)
-step-more (suc left) register next answer h e inv = let one : suc left - 1 ≡ left = omega arith in rw (one, e) inv
+step-more done register next answer h e inv =
+    let one : 8 - done ≡ suc (8 - (done + 1)) = omega arith in rw e (rw one at inv)
 
-pub step-last : (left register answer : ℕ) → left ≤ 0 → steps_of left register ≡ answer → register ≡ answer
-unfolding steps_of
-step-last zero register answer h inv = inv
-step-last (suc left) register answer h inv = absurd (omega arith)
-
-module _ (message : List ℕ) (at register : ℕ) where
-  pub byte_more : (next : ℕ) → at < length message → next ≡ byte_in_of register (get_or message at 0)
-      → register_from register (drop at message) ≡ register_of message → register_from next (drop (at + 1) message) ≡ register_of message
-  unfolding register_from
-  byte_more next h e inv = rw (e, add-one) (rw (drop-cons message at 0 h) at inv)
-
-  pub byte_last : length message ≤ at → register_from register (drop at message) ≡ register_of message → register ≡ register_of message
-  unfolding register_from
-  byte_last h inv = rw (drop_of_length-le message h) at inv
+-- a byte more has gone in
+pub byte_more : (bytes : List ℕ) (register byte next : ℕ) → register ≡ register_from 0 bytes → next ≡ byte_in_of register byte
+    → next ≡ register_from 0 (bytes ++ (byte ∷ []))
+unfolding register_from
+byte_more bytes register byte next inv e = e ∙ ap (λ (r : ℕ). byte_in_of r byte) inv ∙ pieces 0 bytes (byte ∷ [])

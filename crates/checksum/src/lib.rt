@@ -17,10 +17,8 @@ pub fn byte_in(register: u16, byte: u8) -> u16
     ensures { result ≡ byte_in_of register byte }
 {
     let mut mixed = register ^ ((byte as u16) << 8);
-    let mut left: usize = 8;
-    while 0 < left {
+    for _ in 0..8u8 {
         mixed = step(mixed);
-        left -= 1;
     }
     mixed
 }
@@ -30,11 +28,7 @@ pub fn byte_in(register: u16, byte: u8) -> u16
 pub fn checksum(bytes: &[u8]) -> u16
     ensures { result ≡ checksum_of bytes.now }
 {
-    let mut register: u16 = 0;
-    let mut at: usize = 0;
-    while at < bytes.len() {
-        register = byte_in(register, bytes[at]);
-        at += 1;
-    }
-    register
+    bytes
+        .iter()
+        .fold(0, |register, &byte| byte_in(register, byte))
 }

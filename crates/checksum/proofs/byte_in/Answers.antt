@@ -1,23 +1,18 @@
 -- `checksum::byte_in` meets its contract. The loop's invariant: the steps left, from the register as it is, give the answer.
-use mathlib.Core.Path.{refl}
+use mathlib.Core.Path.{◌≡◌, refl}
+use Prim.Native.Nat.{◌-◌}
 use native.Mathlib.Omega.{arith}
-use borrow.Author.Rules.{rules}
-use Rattle.checksum.specs.Xmodem.{byte_in_of}
-use Rattle.checksum.proofs.Turns.{step-more, step-last}
+use Rattle.checksum.specs.Xmodem.{steps_of, byte_in_of}
+use Rattle.checksum.proofs.Turns.{step-more}
 use Rattle.checksum.proofs.byte_in.Goals as goal
 
-pub loop-left-init : goal.loop-left-init
+pub loop-init : goal.loop-init
 unfolding byte_in_of
-loop-left-init c = refl
+loop-init c = (omega arith, refl)
 
-pub overflow_sub-left : goal.overflow_sub-left
-overflow_sub-left c = omega arith
-
-pub loop-left-smaller : goal.loop-left-smaller
-loop-left-smaller c = omega arith
-
-pub loop-left-preserved : goal.loop-left-preserved
-loop-left-preserved c = step-more _ _ _ _ (search rules) c.step-mixed.ensures c.loop-left.invariant
+pub loop-preserved : goal.loop-preserved
+loop-preserved c = (omega arith, step-more _ _ _ _ (omega arith) c.step-mixed.ensures c.loop.invariant.1)
 
 pub returns : goal.returns
-returns c = step-last _ _ _ (search rules) c.loop-left.invariant
+unfolding steps_of
+returns c = let done : 8 - c.loop.counter ≡ 0 = omega arith in rw done at c.loop.invariant.1
