@@ -15,12 +15,6 @@ use Rattle.codes.specs.Codes.{faults, fault_of, fault_number, hw_type_of, hw_typ
 
 -- ---- any list of names
 module _ {A : Type 0} where
-  -- below the length it does not matter what stands past it
-  pub any-default : (names : List A) (n : ℕ) (d e : A) → n < length names → get_or names n d ≡ get_or names n e
-  any-default [] n d e h = absurd (omega arith)
-  any-default (name ∷ names) zero d e h = refl
-  any-default (name ∷ names) (suc n) d e h = any-default names n d e (omega arith)
-
   -- whether the names are numbered one after the other, from k on
   abbrev counted : (A → ℕ) → ℕ → List A → Bool
   counted number k [] = true

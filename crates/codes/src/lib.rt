@@ -6,57 +6,57 @@ ghost use Rattle.std.specs.Prelude.{◌≡◌};
 ghost use Rattle.codes.specs.Codes.{fault_of, fault_number, hw_type_of, hw_type_number, qml_hw_of, qml_hw_number};
 
 // An error condition or hardware failure that a controller reports.
-#[derive(Clone, Copy)]
+#[derive(Clone, Copy, Debug, PartialEq, Eq)]
 pub enum FaultCode {
-    None,
-    OverVoltage,
-    UnderVoltage,
-    Drv,
-    AbsOverCurrent,
-    OverTempFet,
-    OverTempMotor,
-    GateDriverOverVoltage,
-    GateDriverUnderVoltage,
-    McuUnderVoltage,
-    BootingFromWatchdogReset,
-    EncoderSpi,
-    EncoderSinCosBelowMinAmplitude,
-    EncoderSinCosAboveMaxAmplitude,
-    FlashCorruption,
-    HighOffsetCurrentSensor1,
-    HighOffsetCurrentSensor2,
-    HighOffsetCurrentSensor3,
-    UnbalancedCurrents,
-    Brk,
-    ResolverLot,
-    ResolverDos,
-    ResolverLos,
-    FlashCorruptionAppCfg,
-    FlashCorruptionMcCfg,
-    EncoderNoMagnet,
-    EncoderMagnetTooStrong,
-    PhaseFilter,
-    EncoderFault,
-    LvOutputFault,
-    Unknown,
+    None = 0,
+    OverVoltage = 1,
+    UnderVoltage = 2,
+    Drv = 3,
+    AbsOverCurrent = 4,
+    OverTempFet = 5,
+    OverTempMotor = 6,
+    GateDriverOverVoltage = 7,
+    GateDriverUnderVoltage = 8,
+    McuUnderVoltage = 9,
+    BootingFromWatchdogReset = 10,
+    EncoderSpi = 11,
+    EncoderSinCosBelowMinAmplitude = 12,
+    EncoderSinCosAboveMaxAmplitude = 13,
+    FlashCorruption = 14,
+    HighOffsetCurrentSensor1 = 15,
+    HighOffsetCurrentSensor2 = 16,
+    HighOffsetCurrentSensor3 = 17,
+    UnbalancedCurrents = 18,
+    Brk = 19,
+    ResolverLot = 20,
+    ResolverDos = 21,
+    ResolverLos = 22,
+    FlashCorruptionAppCfg = 23,
+    FlashCorruptionMcCfg = 24,
+    EncoderNoMagnet = 25,
+    EncoderMagnetTooStrong = 26,
+    PhaseFilter = 27,
+    EncoderFault = 28,
+    LvOutputFault = 29,
+    Unknown = 255,
 }
 
 // What the hardware is.
-#[derive(Clone, Copy)]
+#[derive(Clone, Copy, Debug, PartialEq, Eq)]
 pub enum HwType {
-    Vesc,
-    VescBms,
-    CustomModule,
-    Unknown,
+    Vesc = 0,
+    VescBms = 1,
+    CustomModule = 2,
+    Unknown = 255,
 }
 
 // Which QML interface the hardware brings.
-#[derive(Clone, Copy)]
+#[derive(Clone, Copy, Debug, PartialEq, Eq)]
 pub enum QmlHw {
-    None,
-    Embedded,
-    Fullscreen,
-    Unknown,
+    None = 0,
+    Embedded = 1,
+    Fullscreen = 2,
+    Unknown = 255,
 }
 
 // The faults by their bytes.
@@ -93,95 +93,66 @@ const FAULT_CODES: [FaultCode; 30] = [
     FaultCode::LvOutputFault,
 ];
 
-pub fn fault_code(byte: u8) -> FaultCode
-    ensures { result ≡ fault_of byte }
-{
-    if byte < 30 {
-        let i = byte as usize;
-        return FAULT_CODES[i];
-    }
-    FaultCode::Unknown
-}
+impl From<u8> for FaultCode {
+    ghost from_gives = { λ byte fault. fault ≡ fault_of byte };
 
-pub fn hw_type(byte: u8) -> HwType
-    ensures { result ≡ hw_type_of byte }
-{
-    match byte {
-        0 => HwType::Vesc,
-        1 => HwType::VescBms,
-        2 => HwType::CustomModule,
-        _ => HwType::Unknown,
+    fn from(byte: u8) -> Self {
+        FAULT_CODES
+            .get(byte as usize)
+            .copied()
+            .unwrap_or(FaultCode::Unknown)
     }
 }
 
-pub fn qml_hw(byte: u8) -> QmlHw
-    ensures { result ≡ qml_hw_of byte }
-{
-    match byte {
-        0 => QmlHw::None,
-        1 => QmlHw::Embedded,
-        2 => QmlHw::Fullscreen,
-        _ => QmlHw::Unknown,
+impl From<u8> for HwType {
+    ghost from_gives = { λ byte hw. hw ≡ hw_type_of byte };
+
+    #[tactic(auto, unfolding(crate::specs::Codes::hw_type_of))]
+    fn from(byte: u8) -> Self {
+        match byte {
+            0 => HwType::Vesc,
+            1 => HwType::VescBms,
+            2 => HwType::CustomModule,
+            _ => HwType::Unknown,
+        }
+    }
+}
+
+impl From<u8> for QmlHw {
+    ghost from_gives = { λ byte qml. qml ≡ qml_hw_of byte };
+
+    #[tactic(auto, unfolding(crate::specs::Codes::qml_hw_of))]
+    fn from(byte: u8) -> Self {
+        match byte {
+            0 => QmlHw::None,
+            1 => QmlHw::Embedded,
+            2 => QmlHw::Fullscreen,
+            _ => QmlHw::Unknown,
+        }
     }
 }
 
 // And back: the numbers of the Rust, 255 for the unknown.
-pub fn fault_number(fault: FaultCode) -> u8
-    ensures { result ≡ fault_number fault }
-{
-    match fault {
-        FaultCode::None => 0,
-        FaultCode::OverVoltage => 1,
-        FaultCode::UnderVoltage => 2,
-        FaultCode::Drv => 3,
-        FaultCode::AbsOverCurrent => 4,
-        FaultCode::OverTempFet => 5,
-        FaultCode::OverTempMotor => 6,
-        FaultCode::GateDriverOverVoltage => 7,
-        FaultCode::GateDriverUnderVoltage => 8,
-        FaultCode::McuUnderVoltage => 9,
-        FaultCode::BootingFromWatchdogReset => 10,
-        FaultCode::EncoderSpi => 11,
-        FaultCode::EncoderSinCosBelowMinAmplitude => 12,
-        FaultCode::EncoderSinCosAboveMaxAmplitude => 13,
-        FaultCode::FlashCorruption => 14,
-        FaultCode::HighOffsetCurrentSensor1 => 15,
-        FaultCode::HighOffsetCurrentSensor2 => 16,
-        FaultCode::HighOffsetCurrentSensor3 => 17,
-        FaultCode::UnbalancedCurrents => 18,
-        FaultCode::Brk => 19,
-        FaultCode::ResolverLot => 20,
-        FaultCode::ResolverDos => 21,
-        FaultCode::ResolverLos => 22,
-        FaultCode::FlashCorruptionAppCfg => 23,
-        FaultCode::FlashCorruptionMcCfg => 24,
-        FaultCode::EncoderNoMagnet => 25,
-        FaultCode::EncoderMagnetTooStrong => 26,
-        FaultCode::PhaseFilter => 27,
-        FaultCode::EncoderFault => 28,
-        FaultCode::LvOutputFault => 29,
-        FaultCode::Unknown => 255,
+impl From<FaultCode> for u8 {
+    ghost from_gives = { λ fault byte. byte ≡ fault_number fault };
+
+    fn from(fault: FaultCode) -> u8 {
+        fault as u8
     }
 }
 
-pub fn hw_type_number(hw: HwType) -> u8
-    ensures { result ≡ hw_type_number hw }
-{
-    match hw {
-        HwType::Vesc => 0,
-        HwType::VescBms => 1,
-        HwType::CustomModule => 2,
-        HwType::Unknown => 255,
+impl From<HwType> for u8 {
+    ghost from_gives = { λ hw byte. byte ≡ hw_type_number hw };
+
+    fn from(hw: HwType) -> u8 {
+        hw as u8
     }
 }
 
-pub fn qml_hw_number(qml: QmlHw) -> u8
-    ensures { result ≡ qml_hw_number qml }
-{
-    match qml {
-        QmlHw::None => 0,
-        QmlHw::Embedded => 1,
-        QmlHw::Fullscreen => 2,
-        QmlHw::Unknown => 255,
+impl From<QmlHw> for u8 {
+    ghost from_gives = { λ qml byte. byte ≡ qml_hw_number qml };
+
+    fn from(qml: QmlHw) -> u8 {
+        qml as u8
     }
 }
