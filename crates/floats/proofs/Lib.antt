@@ -1,6 +1,4 @@
 pub mod Halves
-pub mod NotANumber
-pub mod Held
 pub mod Rounding
 pub mod OverScale
 pub mod Scales

@@ -8,15 +8,6 @@ ghost use Rattle.std.specs.Float.Ieee as Ieee;
 ghost use Rattle.std.specs.Float.{binary32};
 ghost use Rattle.floats.specs.Numbers.{over_scale, times_scale};
 
-// The pattern of +infinity. Without its sign, a pattern is a NaN's exactly where it lies above.
-const INFINITY_BITS: u32 = 0x7f80_0000;
-
-// The weight of a pattern's sign.
-const SIGN_WEIGHT: u32 = 0x8000_0000;
-
-// The pattern of the quiet NaN that has no sign and no payload.
-const NAN_BITS: u32 = 0x7fc0_0000;
-
 // The binary32 nearest to `n`, ties to even: Rust's `n as f32`. The one routine that makes a whole
 // number a float.
 //
@@ -40,6 +31,7 @@ pub fn i32_to_f32(n: i32) -> f32
 }
 
 // A field's raw number over its scale, as `unpack_f32` and `unpack_f16` read it.
+#[tactic(auto, unfolding(crate::specs::Numbers::over_scale))]
 pub fn scaled(n: i32, scale: f32) -> f32
     ensures { result ≡ over_scale n scale }
 {
@@ -47,23 +39,15 @@ pub fn scaled(n: i32, scale: f32) -> f32
 }
 
 // `x` toward zero, held at the ends of the range, 0 for a NaN: Rust's `x as i32`. Rattle's own `as`
-// is defined only where it loses nothing, and std's `truncating_f32_to_i64` only inside an i64's range.
+// is defined only where it loses nothing.
 pub fn f32_to_i32(x: f32) -> i32
     ensures { result ≡ Ieee.to_signed 31 x }
 {
-    if x != x {
-        return 0;
-    }
-    if x < -2147483648.0 {
-        return -2147483648;
-    }
-    if x < 2147483648.0 {
-        return std::num::truncating_f32_to_i64(x) as i32;
-    }
-    2147483647
+    std::num::saturating_f32_to_i32(x)
 }
 
 // A value times its scale as the whole number that is sent, as `pack_f32` writes it.
+#[tactic(auto, unfolding(crate::specs::Numbers::times_scale))]
 pub fn unscaled(value: f32, scale: f32) -> i32
     ensures { result ≡ times_scale value scale }
 {
@@ -75,19 +59,13 @@ pub fn unscaled(value: f32, scale: f32) -> i32
 pub fn f32_from_bits(bits: u32) -> f32
     ensures { result ≡ Ieee.of_bits binary32 bits }
 {
-    if INFINITY_BITS < bits % SIGN_WEIGHT {
-        return 0.0 / 0.0;
-    }
-    f32::from_bits(bits)
+    std::num::f32_from_bits_with_nan(bits)
 }
 
 // The bits that stand for `x`. Rattle's `f32::to_bits` is undefined at a NaN: here it has the one
-// pattern.
+// pattern, quiet, with no sign and no payload.
 pub fn f32_to_bits(x: f32) -> u32
     ensures { result ≡ Ieee.to_bits binary32 x }
 {
-    if x != x {
-        return NAN_BITS;
-    }
-    f32::to_bits(x)
+    std::num::f32_to_bits_with_nan(x)
 }
