@@ -9,7 +9,7 @@ use Rattle.packer.specs.Numbers.{be_at, total, numbers_at}
 use Rattle.tables.specs.Rows.{MaskBits}
 use Rattle.tables.specs.Tables.{width_of, Field, has_bit, takes, widths, most}
 
-cond-most : (p : Bool) (n : ℕ) → cond p n 0 ≤ n
+pub cond-most : (p : Bool) (n : ℕ) → cond p n 0 ≤ n
 cond-most true n = omega arith
 cond-most false n = omega arith
 

@@ -1,26 +1,17 @@
--- The code's own tables: a list of rows, a number each, and the widths that they stand for. That these are the widths of document 01's tables
--- under every mask is computed.
-use Rattle.std.specs.Prelude.{Bool, true, ◌&&◌, cond, List, [], ◌∷◌, ◌++◌, ℕ, ◌-◌, ◌/◌, ◌%◌, ◌≤◌, T, leb, ltb, length, replicate}
+-- The code's own tables: a row a field, its bit in the mask and its width in bytes.
+use Rattle.std.specs.Prelude.{Bool, true, ◌&&◌, List, [], ◌∷◌, ◌++◌, ℕ, ◌-◌, T, ltb, length, replicate}
 use Rattle.format.specs.Format.{table_rows, values_bit_count, setup_bit_count, stats_bit_count}
-use Rattle.tables.specs.Tables.{Field, has_bit, values_table, setup_table, stats_table}
+use Rattle.tables.specs.Tables.{Field, width_of, values_table, setup_table, stats_table}
+use Rattle.tables.specs.declared.Row.{Row}
 
--- a row is 8 times the bit, and the width
-unfoldable pub row_takes : ℕ → ℕ → ℕ
-row_takes mask row = cond (has_bit mask (row / 8)) (row % 8) 0
+-- a field's row
+abbrev pub row_of : Field → Row
+row_of f = record { bit = f.bit; width = width_of f.coding }
 
-unfoldable pub widths_by : ℕ → List ℕ → List ℕ
-widths_by mask [] = []
-widths_by mask (row ∷ rows) = row_takes mask row ∷ widths_by mask rows
-
--- whether no row's width is above 4
-abbrev pub narrow : List ℕ → Bool
-narrow [] = true
-narrow (row ∷ rows) = leb (row % 8) 4 && narrow rows
-
--- rows that a walk can go by
-pub record Rows (rows : List ℕ) : Type 0 where
-  pub few : length rows ≤ table_rows
-  pub narrow : T (narrow rows)
+-- a table's rows
+abbrev pub rows_of : List Field → List Row
+rows_of [] = []
+rows_of (f ∷ table) = row_of f ∷ rows_of table
 
 -- the raw numbers of a table as the code has them: zeros stand past a shorter one
 unfoldable pub padded : List ℕ → List ℕ

@@ -4,18 +4,18 @@
 // seen that a good frame has every byte. Document 02, W4, has them written by the same tables.
 #![tactic(auto)]
 
-ghost use Rattle.std.specs.Prelude.{true, ◌↔◌, ◌≡◌, ◌≤◌, ◌<◌, length, drop, get_or};
+ghost use Rattle.std.specs.Prelude.{true, ◌↔◌, ◌≡◌, ◌<◌, ◌≤◌, drop, get_or};
 ghost use Rattle.packer.specs.Numbers.{be_at, total, numbers_at, digits};
 ghost use Rattle.packer.specs.Packing.{PackIs};
-ghost use Rattle.tables.specs.Tables.{widths};
+ghost use Rattle.tables.specs.Tables.{Field, takes, widths};
 ghost use Rattle.tables.specs.Bits.{HasBits};
 ghost use Rattle.tables.specs.Sorts.{table_of, known_bits};
-ghost use Rattle.tables.specs.Rows.{Rows, row_takes, widths_by, padded};
+ghost use Rattle.tables.specs.Rows.{row_of, rows_of, padded};
 
 use refusals::EncodeError;
 
 // Which record a masked reply carries, and so which table it goes by.
-#[derive(Clone, Copy)]
+#[derive(Clone, Copy, Debug, PartialEq, Eq)]
 pub enum Sort {
     Values,
     SetupValues,
@@ -23,6 +23,7 @@ pub enum Sort {
 }
 
 // Whether a mask has every bit of `bits`: the Rust's `contains`.
+#[tactic(auto, using(crate::proofs::Bits::by_and))]
 pub fn has_bits(mask: u32, bits: u32) -> bool
     ensures { (result ≡ true) ↔ HasBits mask bits }
 {
@@ -30,6 +31,7 @@ pub fn has_bits(mask: u32, bits: u32) -> bool
 }
 
 // Whether a mask has no bit but those of the reply's table.
+#[tactic(auto, unfolding(crate::specs::Sorts::known_bits))]
 pub fn known_bits(sort: Sort, mask: u32) -> bool
     ensures { result ≡ known_bits sort mask }
 {
@@ -40,126 +42,127 @@ pub fn known_bits(sort: Sort, mask: u32) -> bool
     }
 }
 
-// A table is a row a field, in the order sent: 8 times the mask's bit that governs the field, and the
-// field's width in bytes. Bit 18 governs three.
-const VALUES_TABLE: [u8; format::TABLE_ROWS] = [
-    0 * 8 + 2, // temp_mosfet
-    1 * 8 + 2, // temp_motor
-    2 * 8 + 4, // avg_current_motor
-    3 * 8 + 4, // avg_current_input
-    4 * 8 + 4, // avg_current_d
-    5 * 8 + 4, // avg_current_q
-    6 * 8 + 2, // duty_cycle
-    7 * 8 + 4, // rpm
-    8 * 8 + 2, // voltage_in
-    9 * 8 + 4, // amp_hours
-    10 * 8 + 4, // amp_hours_charged
-    11 * 8 + 4, // watt_hours
-    12 * 8 + 4, // watt_hours_charged
-    13 * 8 + 4, // tachometer
-    14 * 8 + 4, // tachometer_abs
-    15 * 8 + 1, // fault_code
-    16 * 8 + 4, // pid_pos
-    17 * 8 + 1, // controller_id
-    18 * 8 + 2, // temp_mosfet1
-    18 * 8 + 2, // temp_mosfet2
-    18 * 8 + 2, // temp_mosfet3
-    19 * 8 + 4, // avg_voltage_d
-    20 * 8 + 4, // avg_voltage_q
-    21 * 8 + 1, // status
-];
+// A row of a table: the bit of the mask that governs a field, and the field's width in bytes.
+struct Row {
+    bit: u32,
+    width: usize,
+}
 
-const SETUP_TABLE: [u8; 22] = [
-    0 * 8 + 2, // temp_mosfet
-    1 * 8 + 2, // temp_motor
-    2 * 8 + 4, // avg_current_motor
-    3 * 8 + 4, // avg_current_input
-    4 * 8 + 2, // duty_cycle
-    5 * 8 + 4, // rpm
-    6 * 8 + 4, // speed
-    7 * 8 + 2, // voltage_in
-    8 * 8 + 2, // battery_level
-    9 * 8 + 4, // amp_hours
-    10 * 8 + 4, // amp_hours_charged
-    11 * 8 + 4, // watt_hours
-    12 * 8 + 4, // watt_hours_charged
-    13 * 8 + 4, // distance
-    14 * 8 + 4, // distance_abs
-    15 * 8 + 4, // pid_pos
-    16 * 8 + 1, // fault_code
-    17 * 8 + 1, // controller_id
-    18 * 8 + 1, // num_vescs
-    19 * 8 + 4, // watt_hours_battery_left
-    20 * 8 + 4, // odometer
-    21 * 8 + 4, // uptime_ms
-];
-
-const STATS_TABLE: [u8; 11] = [
-    0 * 8 + 4, // speed_avg
-    1 * 8 + 4, // speed_max
-    2 * 8 + 4, // power_avg
-    3 * 8 + 4, // power_max
-    4 * 8 + 4, // current_avg
-    5 * 8 + 4, // current_max
-    6 * 8 + 4, // temp_mosfet_avg
-    7 * 8 + 4, // temp_mosfet_max
-    8 * 8 + 4, // temp_motor_avg
-    9 * 8 + 4, // temp_motor_max
-    10 * 8 + 4, // count_time
-];
-
-// The bytes that a row's field takes under a mask.
-fn takes(mask: u32, row: u8) -> usize
-    ensures { result ≡ row_takes mask row }
-{
-    if (mask >> (row / 8)) % 2 == 1 {
-        (row % 8) as usize
-    } else {
-        0
+impl Row {
+    // The bytes that the field takes under a mask.
+    fn takes(&self, mask: u32) -> usize
+        requires { self.now.bit < 32 }
+        ensures { (f : Field) → self.now ≡ row_of f → result ≡ takes mask f }
+    {
+        if (mask >> self.bit) % 2 == 1 {
+            self.width
+        } else {
+            0
+        }
     }
 }
 
-// The bytes that the fields of a table take under a mask.
-fn span_by(mask: u32, rows: &[u8]) -> usize
-    requires { Rows rows.now }
-    ensures { result ≡ total (widths_by mask rows.now) }
+// A table has a row a field, in the order sent. Bit 18 governs three.
+static VALUES_TABLE: [Row; format::TABLE_ROWS] = [
+    Row { bit: 0, width: 2 }, // temp_mosfet
+    Row { bit: 1, width: 2 }, // temp_motor
+    Row { bit: 2, width: 4 }, // avg_current_motor
+    Row { bit: 3, width: 4 }, // avg_current_input
+    Row { bit: 4, width: 4 }, // avg_current_d
+    Row { bit: 5, width: 4 }, // avg_current_q
+    Row { bit: 6, width: 2 }, // duty_cycle
+    Row { bit: 7, width: 4 }, // rpm
+    Row { bit: 8, width: 2 }, // voltage_in
+    Row { bit: 9, width: 4 }, // amp_hours
+    Row { bit: 10, width: 4 }, // amp_hours_charged
+    Row { bit: 11, width: 4 }, // watt_hours
+    Row { bit: 12, width: 4 }, // watt_hours_charged
+    Row { bit: 13, width: 4 }, // tachometer
+    Row { bit: 14, width: 4 }, // tachometer_abs
+    Row { bit: 15, width: 1 }, // fault_code
+    Row { bit: 16, width: 4 }, // pid_pos
+    Row { bit: 17, width: 1 }, // controller_id
+    Row { bit: 18, width: 2 }, // temp_mosfet1
+    Row { bit: 18, width: 2 }, // temp_mosfet2
+    Row { bit: 18, width: 2 }, // temp_mosfet3
+    Row { bit: 19, width: 4 }, // avg_voltage_d
+    Row { bit: 20, width: 4 }, // avg_voltage_q
+    Row { bit: 21, width: 1 }, // status
+];
+
+static SETUP_TABLE: [Row; 22] = [
+    Row { bit: 0, width: 2 }, // temp_mosfet
+    Row { bit: 1, width: 2 }, // temp_motor
+    Row { bit: 2, width: 4 }, // avg_current_motor
+    Row { bit: 3, width: 4 }, // avg_current_input
+    Row { bit: 4, width: 2 }, // duty_cycle
+    Row { bit: 5, width: 4 }, // rpm
+    Row { bit: 6, width: 4 }, // speed
+    Row { bit: 7, width: 2 }, // voltage_in
+    Row { bit: 8, width: 2 }, // battery_level
+    Row { bit: 9, width: 4 }, // amp_hours
+    Row { bit: 10, width: 4 }, // amp_hours_charged
+    Row { bit: 11, width: 4 }, // watt_hours
+    Row { bit: 12, width: 4 }, // watt_hours_charged
+    Row { bit: 13, width: 4 }, // distance
+    Row { bit: 14, width: 4 }, // distance_abs
+    Row { bit: 15, width: 4 }, // pid_pos
+    Row { bit: 16, width: 1 }, // fault_code
+    Row { bit: 17, width: 1 }, // controller_id
+    Row { bit: 18, width: 1 }, // num_vescs
+    Row { bit: 19, width: 4 }, // watt_hours_battery_left
+    Row { bit: 20, width: 4 }, // odometer
+    Row { bit: 21, width: 4 }, // uptime_ms
+];
+
+static STATS_TABLE: [Row; 11] = [
+    Row { bit: 0, width: 4 }, // speed_avg
+    Row { bit: 1, width: 4 }, // speed_max
+    Row { bit: 2, width: 4 }, // power_avg
+    Row { bit: 3, width: 4 }, // power_max
+    Row { bit: 4, width: 4 }, // current_avg
+    Row { bit: 5, width: 4 }, // current_max
+    Row { bit: 6, width: 4 }, // temp_mosfet_avg
+    Row { bit: 7, width: 4 }, // temp_mosfet_max
+    Row { bit: 8, width: 4 }, // temp_motor_avg
+    Row { bit: 9, width: 4 }, // temp_motor_max
+    Row { bit: 10, width: 4 }, // count_time
+];
+
+// The rows of the table that a masked reply goes by.
+fn rows(sort: Sort) -> &'static [Row]
+    ensures { result.now ≡ rows_of (table_of sort) }
 {
-    let mut sum: usize = 0;
-    let mut k: usize = 0;
-    while k < rows.len() {
-        sum += takes(mask, rows[k]);
-        k += 1;
+    match sort {
+        Sort::Values => &VALUES_TABLE,
+        Sort::SetupValues => &SETUP_TABLE,
+        Sort::Stats => &STATS_TABLE,
     }
-    sum
 }
 
-// The bytes that the fields of a masked reply take. A constant array is made anew at each use, so it
-// is lent to the walk whole.
+// The bytes that the fields of a masked reply take.
 pub fn span(sort: Sort, mask: u32) -> usize
     ensures { result ≡ total (widths mask (table_of sort)) }
 {
-    match sort {
-        Sort::Values => span_by(mask, &VALUES_TABLE),
-        Sort::SetupValues => span_by(mask, &SETUP_TABLE),
-        Sort::Stats => span_by(mask, &STATS_TABLE),
+    let mut sum = 0;
+    for row in rows(sort) {
+        sum += row.takes(mask);
     }
+    sum
 }
 
 // A byte of a slice.
 pub fn byte_at(buf: &[u8], pos: usize) -> u8
     ensures { result ≡ get_or buf.now pos 0 }
 {
-    if pos < buf.len() {
-        return buf[pos];
-    }
-    0
+    buf.get(pos).copied().unwrap_or(0)
 }
 
-// A cast at a call would ask that the byte fits; here it is the function's own.
-fn wide(byte: u8) -> u32
-    ensures { (result ≡ byte) × (result < 256) }
+// The slice from `pos` on, or nothing where that lies past the end.
+fn from_place(buf: &[u8], pos: usize) -> &[u8]
+    ensures { result.now ≡ drop pos buf.now }
 {
-    byte as u32
+    &buf[pos.min(buf.len())..]
 }
 
 // The number of the `width` bytes at `at`.
@@ -167,59 +170,18 @@ fn number_at(part: &[u8], at: usize, width: usize) -> u32
     requires { (at ≤ 96) × (width ≤ 4) }
     ensures { result ≡ be_at part.now at width }
 {
-    let mut number: u32 = 0;
-    let mut k: usize = 0;
-    while k < width {
-        number = number * 256 + wide(byte_at(part, at + k));
-        k += 1;
+    let mut number = 0u32;
+    for k in 0..width {
+        number = number * 256 + byte_at(part, at + k) as u32;
     }
     number
-}
-
-// The fields of a table that a mask has, from the front of a part on.
-fn raws_by(part: &[u8], mask: u32, rows: &[u8]) -> [u32; format::TABLE_ROWS]
-    requires { Rows rows.now }
-    ensures { result ≡ padded (numbers_at (widths_by mask rows.now) part.now 0) }
-{
-    let mut raw = [0u32; format::TABLE_ROWS];
-    let mut at: usize = 0;
-    let mut k: usize = 0;
-    while k < rows.len() {
-        let width = takes(mask, rows[k]);
-        raw[k] = number_at(part, at, width);
-        at += width;
-        k += 1;
-    }
-    raw
-}
-
-// The same for a masked reply.
-fn raws(part: &[u8], sort: Sort, mask: u32) -> [u32; format::TABLE_ROWS]
-    ensures { result ≡ padded (numbers_at (widths mask (table_of sort)) part.now 0) }
-{
-    match sort {
-        Sort::Values => raws_by(part, mask, &VALUES_TABLE),
-        Sort::SetupValues => raws_by(part, mask, &SETUP_TABLE),
-        Sort::Stats => raws_by(part, mask, &STATS_TABLE),
-    }
-}
-
-// The place `pos`, or the end where that comes first.
-fn within(buf: &[u8], pos: usize) -> usize
-    ensures { (result ≤ length buf.now) × (drop result buf.now ≡ drop pos buf.now) }
-{
-    if buf.len() < pos {
-        return buf.len();
-    }
-    pos
 }
 
 // The number of the four bytes at `pos`: a mask, for one.
 pub fn word_at(buf: &[u8], pos: usize) -> u32
     ensures { result ≡ be_at buf.now pos 4 }
 {
-    let start = within(buf, pos);
-    number_at(&buf[start..], 0, 4)
+    number_at(from_place(buf, pos), 0, 4)
 }
 
 // The raw numbers of the fields of a masked reply that a mask has, in the table's order: 0 for a field
@@ -227,39 +189,15 @@ pub fn word_at(buf: &[u8], pos: usize) -> u32
 pub fn unpack_fields(buf: &[u8], pos: usize, sort: Sort, mask: u32) -> [u32; format::TABLE_ROWS]
     ensures { result ≡ padded (numbers_at (widths mask (table_of sort)) buf.now pos) }
 {
-    let start = within(buf, pos);
-    raws(&buf[start..], sort, mask)
-}
-
-// Writes the fields of a table that a mask has, one after the other from `pos` on. The room for all of
-// them is judged first, so a refusal writes nothing.
-fn pack_by(
-    buf: &mut [u8],
-    pos: usize,
-    mask: u32,
-    rows: &[u8],
-    raw: [u32; format::TABLE_ROWS],
-) -> Result<usize, EncodeError>
-    requires { Rows rows.now }
-    ensures { PackIs (digits (widths_by mask rows.now) raw) buf.old pos result buf.new }
-{
-    let size = span_by(mask, rows);
-    let room = buf.len();
-    if room < size {
-        return Err(EncodeError::BufferTooSmall);
+    let part = from_place(buf, pos);
+    let mut raw = [0; format::TABLE_ROWS];
+    let mut at = 0;
+    for (k, row) in rows(sort).iter().enumerate() {
+        let width = row.takes(mask);
+        raw[k] = number_at(part, at, width);
+        at += width;
     }
-    if room - size < pos {
-        return Err(EncodeError::BufferTooSmall);
-    }
-    let mut at = pos;
-    let mut k: usize = 0;
-    while k < rows.len() {
-        let taken = takes(mask, rows[k]);
-        packer::pack_be(buf, at, taken, raw[k]);
-        at += taken;
-        k += 1;
-    }
-    Ok(at)
+    raw
 }
 
 // Writes at `pos` the fields of a masked reply that a mask has, in the table's order, from their raw
@@ -274,9 +212,13 @@ pub fn pack_fields(
 ) -> Result<usize, EncodeError>
     ensures { PackIs (digits (widths mask (table_of sort)) raw) buf.old pos result buf.new }
 {
-    match sort {
-        Sort::Values => pack_by(buf, pos, mask, &VALUES_TABLE, raw),
-        Sort::SetupValues => pack_by(buf, pos, mask, &SETUP_TABLE, raw),
-        Sort::Stats => pack_by(buf, pos, mask, &STATS_TABLE, raw),
+    let room = buf.len();
+    if room < pos || room - pos < span(sort, mask) {
+        return Err(EncodeError::BufferTooSmall);
     }
+    let mut at = pos;
+    for (row, &number) in rows(sort).iter().zip(&raw) {
+        at = packer::pack_be(buf, at, row.takes(mask), number)?;
+    }
+    Ok(at)
 }

@@ -1,6 +1,6 @@
 -- `tables::number_at` meets its contract: the number so far is that of the bytes passed, and below 256 for each.
 use Prim.Native.Nat.{ℕ, ◌^◌, ◌≤◌, ◌<◌}
-use mathlib.Core.Path.{◌≡◌, refl}
+use mathlib.Core.Path.{refl}
 use native.Mathlib.Omega.{arith}
 use native.Mathlib.Numerals.{add-one}
 use native.Mathlib.Nat.{pow-le-pow_right, pow-suc}
@@ -12,32 +12,14 @@ small k width h l = let j : k ≤ 3 = omega arith in pow-le-pow_right (omega ari
 
 pub loop-k-init : goal.loop-k-init
 unfolding be_at
-loop-k-init c = (omega arith, refl, omega arith)
+loop-k-init c = (refl, omega arith)
 
 pub overflow_mul-number : goal.overflow_mul-number
 overflow_mul-number c = omega (arith, small _ _ c.loop-k-test.true c.requires.1)
 
-pub overflow_add-at : goal.overflow_add-at
-overflow_add-at c = omega arith
-
 pub overflow_add-number : goal.overflow_add-number
-overflow_add-number c = omega (arith, small _ _ c.loop-k-test.true c.requires.1, c.wide.ensures.1)
-
-pub overflow_add-k : goal.overflow_add-k
-overflow_add-k c = omega arith
-
-pub loop-k-smaller : goal.loop-k-smaller
-loop-k-smaller c = omega arith
+overflow_add-number c = omega (arith, small _ _ c.loop-k-test.true c.requires.1)
 
 pub loop-k-preserved : goal.loop-k-preserved
 unfolding be_at
-loop-k-preserved c = (
-  omega arith,
-  rw add-one (omega (arith, c.wide.ensures.0, c.byte_at.ensures)),
-  rw (add-one, pow-suc) (omega (arith, c.wide.ensures.1)),
-)
-
-pub returns : goal.returns
-returns c =
-    let h : c.loop-k.k ≡ c.args.width = omega arith in
-    rw h at c.loop-k.invariant.1
+loop-k-preserved c = (rw add-one (omega (arith, c.byte_at.ensures)), rw (add-one, pow-suc) (omega arith))

@@ -1,16 +1,56 @@
--- `tables::pack_fields` meets its contract: the rows of the code's tables and the fields of document 01's compute to the same widths.
-use Rattle.tables.specs.Tables.{takes, widths}
-use Rattle.tables.specs.Rows.{row_takes, widths_by}
+-- `tables::pack_fields` meets its contract: with room for all of them, writing the fields that are left behind those that are written makes what
+-- writing all of them makes of the slice as it was.
+use Prim.Native.Nat.{◌+◌}
+use mathlib.Core.List.{[], ◌∷◌, ◌++◌}
+use mathlib.Core.Path.{◌≡◌}
+use native.Mathlib.Omega.{arith}
+use borrow.Author.Rules.{rules}
+use lib.ListN.{length, length-append}
+use Rattle.std.proofs.lemmas.Slice.Zip.{zip_turn, zip_end}
+use Rattle.packer.proofs.Writes.{full-packed}
+use Rattle.tables.specs.Sorts.{table_of}
+use Rattle.tables.proofs.Turns.{few, rows-length, rows-size, row-bit, span-next, no-refusal, next-place, written_next, written-past}
 use Rattle.tables.proofs.pack_fields.Goals as goal
+use Rattle.tables.proofs.pack_fields.Goals.{then-room-pos-via-then-room-pos, then-room-pos-via-else-room-pos+then-room-pos-2}
 
-pub returns-in-Values : goal.returns-in-Values
-unfolding takes widths row_takes widths_by
-returns-in-Values c = rw c.in-Values.is c.pack_by.ensures
+pub returns-then-room-pos : goal.returns-then-room-pos
+returns-then-room-pos c =
+    let size = rows-size c.args.mask (table_of c.args.sort) c.args.raw 0 (omega (arith, few c.args.sort)) in
+    elim c.then-room-pos.branch [
+      | then-room-pos-via-then-room-pos w ↦ full-packed _ _ _ (omega (arith, size))
+      | then-room-pos-via-else-room-pos+then-room-pos-2 w ↦ full-packed _ _ _ (omega (arith, size))
+    ]
 
-pub returns-in-SetupValues : goal.returns-in-SetupValues
-unfolding takes widths row_takes widths_by
-returns-in-SetupValues c = rw c.in-SetupValues.is c.pack_by-in-SetupValues.ensures
+pub takes-requires : goal.takes-requires
+takes-requires c =
+    let turn = zip_turn c.rows.result.now c.args.raw _ c.into_iter-row-iterator.result _ c.next.new.self _ (search rules) (search rules) c.loop-row.yielded_by _ c.in-Some.is c.next.ensures.steps in
+    row-bit c.args.sort c.rows.ensures _ c.in-Some.row.now turn.0 (turn.2 _)
 
-pub returns-in-Stats : goal.returns-in-Stats
-unfolding takes widths row_takes widths_by
-returns-in-Stats c = rw c.in-Stats.is c.pack_by-in-Stats.ensures
+pub returns-in_err-at : goal.returns-in_err-at
+returns-in_err-at c =
+    let turn = zip_turn c.rows.result.now c.args.raw _ c.into_iter-row-iterator.result _ c.next.new.self _ (search rules) (search rules) c.loop-row.yielded_by _ c.in-Some.is c.next.ensures.steps in
+    absurd
+    (no-refusal c.args.sort c.rows.ensures _ c.in-Some.row.now turn.0 (turn.2 _) c.args.mask c.takes.ensures c.args.raw (omega (arith, few c.args.sort))
+    (turn.3 0) (omega arith) c.pack_be.ensures c.in_err-at.was)
+
+pub loop-row-preserved : goal.loop-row-preserved
+loop-row-preserved c =
+    let turn = zip_turn c.rows.result.now c.args.raw _ c.into_iter-row-iterator.result _ c.next.new.self _ (search rules) (search rules) c.loop-row.yielded_by _ c.in-Some.is c.next.ensures.steps in
+    let sort = c.args.sort in
+    let row = c.in-Some.row.now in
+    let many = few c.args.sort in
+    let more : length (c.loop-row.yielded ++ ((c.in-Some.row, c.in-Some.field-0-1) ∷ [])) ≡ length c.loop-row.yielded + 1 = simp length-append in
+    rw more (
+      omega (
+        arith,
+        span-next sort c.rows.ensures _ row turn.0 (turn.2 _) c.args.mask c.takes.ensures,
+        next-place sort c.rows.ensures _ row turn.0 (turn.2 _) c.args.mask c.takes.ensures c.args.raw (omega arith) (turn.3 0) (omega arith) c.pack_be.ensures c.in_ok-at.was,
+      ),
+      written_next sort c.rows.ensures _ row turn.0 (turn.2 _) c.args.mask c.takes.ensures c.args.raw (omega arith) (turn.3 0) (omega arith) c.pack_be.ensures
+          c.in_ok-at.was c.loop-row.invariant.1,
+    )
+
+pub returns : goal.returns
+returns c =
+    let end = zip_end c.rows.result.now c.args.raw _ c.into_iter-row-iterator.result _ c.next.new.self _ (search rules) (search rules) c.loop-row.yielded_by c.in-None.is c.next.ensures.steps in
+    written-past c.args.sort c.rows.ensures _ (omega (arith, few c.args.sort, rows-length c.args.sort c.rows.ensures)) c.args.mask c.args.raw (omega arith) c.loop-row.invariant.1

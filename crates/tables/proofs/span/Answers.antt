@@ -1,16 +1,23 @@
--- `tables::span` meets its contract: the fields of the code's tables and those of document 01's compute to the same sum.
-use Rattle.tables.specs.Tables.{takes, widths}
-use Rattle.tables.specs.Rows.{row_takes, widths_by}
+-- `tables::span` meets its contract: the sum, and what the rows not yet passed take, is what all of them take.
+use mathlib.Core.Path.{refl}
+use native.Mathlib.Omega.{arith}
+use Rattle.tables.proofs.Turns.{row-bit, span-next, span-past, bytes-few}
 use Rattle.tables.proofs.span.Goals as goal
 
-pub returns-in-Values : goal.returns-in-Values
-unfolding takes widths row_takes widths_by
-returns-in-Values c = rw c.in-Values.is c.span_by.ensures
+pub takes-sum-requires : goal.takes-sum-requires
+takes-sum-requires c = row-bit c.args.sort c.rows-row-items.ensures _ _ c.loop-row-test.true refl
 
-pub returns-in-SetupValues : goal.returns-in-SetupValues
-unfolding takes widths row_takes widths_by
-returns-in-SetupValues c = rw c.in-SetupValues.is c.span_by-in-SetupValues.ensures
+pub overflow_add-sum : goal.overflow_add-sum
+overflow_add-sum c =
+    omega (
+      arith,
+      span-next c.args.sort c.rows-row-items.ensures _ _ c.loop-row-test.true refl c.args.mask c.takes-sum.ensures,
+      bytes-few c.args.sort c.args.mask,
+    )
 
-pub returns-in-Stats : goal.returns-in-Stats
-unfolding takes widths row_takes widths_by
-returns-in-Stats c = rw c.in-Stats.is c.span_by-in-Stats.ensures
+pub loop-row-preserved : goal.loop-row-preserved
+loop-row-preserved c =
+    omega (arith, span-next c.args.sort c.rows-row-items.ensures _ _ c.loop-row-test.true refl c.args.mask c.takes-sum.ensures)
+
+pub returns : goal.returns
+returns c = omega (arith, span-past c.args.sort c.rows-row-items.ensures _ c.loop-row-test.false c.args.mask)
