@@ -1,10 +1,13 @@
 -- Well-formed bytes, sequence by sequence: past the one at the front, at none, at the end.
-use Rattle.std.specs.Prelude.{◌≡◌, ℕ, zero, suc, ◌+◌, ◌<◌, ◌≤◌, true, false, List, [], ◌∷◌, length, drop}
-use mathlib.Core.Path.{refl, sym, ap, ◌∙◌}
+use Rattle.std.specs.Prelude.{◌≡◌, ℕ, zero, suc, ◌<◌, true, false, List, [], ◌∷◌, length, drop}
+use mathlib.Core.Path.{refl}
+use mathlib.Core.Bool.{true≢false}
 use native.Mathlib.Omega.{arith}
-use lib.ListN.{drop_of_length-le, length-drop}
-use lib.Seq.{drop-drop}
+use lib.Dec.{eqb}
+use lib.ListN.{length-drop}
+use borrow.Author.Tests.{eqb-true, eqb-false}
 use Rattle.text.specs.Utf8.{table, front_length, well_formed_after, well_formed}
+use Rattle.text.proofs.Rows.{front-within}
 
 -- to pass bytes of a sequence is to drop them
 after-dropped : (more : ℕ) (bytes : List ℕ) → well_formed_after more bytes ≡ well_formed (drop more bytes)
@@ -14,26 +17,24 @@ after-dropped (suc more) [] = refl
 after-dropped (suc more) (byte ∷ bytes) = after-dropped more bytes
 
 -- bytes with a sequence at the front are as well-formed as what follows it
-pub past-sequence : (size : ℕ) (bytes : List ℕ) → front_length table bytes ≡ size → (size ≡ 0 → ⊥) → well_formed bytes ≡ well_formed (drop size bytes)
+pub past-sequence : (size : ℕ) (bytes : List ℕ) → front_length table bytes ≡ size → 0 < size → well_formed bytes ≡ well_formed (drop size bytes)
 unfolding well_formed_after well_formed
-past-sequence zero bytes e some = absurd (some refl)
+past-sequence zero bytes e some = absurd (omega arith)
 past-sequence (suc more) [] e some = refl
 past-sequence (suc more) (byte ∷ bytes) e some = rw e (after-dropped more bytes)
 
--- bytes with no sequence at the front are not well-formed
-no-sequence : (bytes : List ℕ) → 0 < length bytes → front_length table bytes ≡ 0 → well_formed bytes ≡ false
+-- bytes with no sequence at the front are not well-formed; there are some
+pub no-sequence : (bytes : List ℕ) → eqb (length bytes) 0 ≡ false → front_length table bytes ≡ 0 → well_formed bytes ≡ false
 unfolding well_formed_after well_formed
-no-sequence [] some e = absurd (omega arith)
+no-sequence [] some e = absurd (true≢false some)
 no-sequence (byte ∷ bytes) some e = rw e
 
--- the same at a place of the bytes
-module _ (bytes : List ℕ) (at : ℕ) {size : ℕ} (e : size ≡ front_length table (drop at bytes)) where
-  pub past-at : (size ≡ 0 → ⊥) → well_formed (drop at bytes) ≡ well_formed (drop (at + size) bytes)
-  past-at some = past-sequence size (drop at bytes) (sym e) some ∙ ap well_formed (drop-drop size at bytes)
+-- what follows a sequence is shorter
+pub left-shorter : (bytes : List ℕ) → eqb (length bytes) 0 ≡ false → 0 < front_length table bytes → length (drop (front_length table bytes) bytes) < length bytes
+left-shorter bytes some long = let z = eqb-false (length bytes) 0 some in simp length-drop (omega (arith, front-within table bytes))
 
-  pub none-at : at < length bytes → size ≡ 0 → well_formed (drop at bytes) ≡ false
-  none-at inside none = no-sequence (drop at bytes) (simp length-drop (omega arith)) (sym e ∙ none)
-
-pub end-at : (bytes : List ℕ) (at : ℕ) → length bytes ≤ at → well_formed (drop at bytes) ≡ true
+-- no bytes are well-formed
+pub none-formed : (bytes : List ℕ) → eqb (length bytes) 0 ≡ true → well_formed bytes ≡ true
 unfolding well_formed_after well_formed
-end-at bytes at past = rw (drop_of_length-le bytes past)
+none-formed [] e = refl
+none-formed (byte ∷ bytes) e = let z = eqb-true (length (byte ∷ bytes)) 0 e in absurd (omega arith)

@@ -1,5 +1,5 @@
 -- `well_formed` decides the rule `WellFormed`: rows of different lengths never stand at the front of the same bytes.
-use Rattle.std.specs.Prelude.{◌≡◌, ℕ, zero, suc, ◌≤◌, Bool, true, false, cond, ◌&&◌, ◌||◌, eqb, ltb, leb, ◌⊎◌, ◌↔◌, List, [], ◌∷◌, length, drop}
+use Rattle.std.specs.Prelude.{◌≡◌, ℕ, zero, suc, ◌<◌, ◌≤◌, Bool, true, false, cond, ◌&&◌, ◌||◌, eqb, ltb, leb, ◌⊎◌, ◌↔◌, List, [], ◌∷◌, length, drop}
 use mathlib.Core.Path.{refl, sym, ap, ◌∙◌}
 use mathlib.Core.Bool.{and-eq-true_iff, false≢true}
 use mathlib.Core.List.Memᴰ
@@ -115,9 +115,9 @@ table-agrees : every (λ row. every (agree row) table) table ≡ true
 table-agrees = refl
 
 -- so none is empty
-row-some : (row : Row) → every (agree row) table ≡ true → length row ≡ 0 → ⊥
-row-some [] agreed e = false≢true agreed
-row-some (r ∷ row) agreed e = omega arith
+row-some : (row : Row) → every (agree row) table ≡ true → 0 < length row
+row-some [] agreed = absurd (false≢true agreed)
+row-some (r ∷ row) agreed = omega arith
 
 -- what is well-formed by the rule `well_formed` says yes to
 holds-well-formed : {bytes : List ℕ} → WellFormed bytes → well_formed bytes ≡ true

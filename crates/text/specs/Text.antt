@@ -1,5 +1,6 @@
 -- Document 01, "Reply fields": the text of a name.
-use Rattle.std.specs.Prelude.{◌≡◌, ℕ, ◌-◌, ◌<◌, ◌≤◌, Bool, true, false, cond, ◌↔◌, List, [], length, get_or, take, ◌≢◌, slice_index_or}
+use Rattle.std.specs.Prelude.{◌≡◌, ℕ, ◌-◌, ◌<◌, ◌≤◌, Bool, true, false, cond, ◌↔◌, List, [], length, get_or, take, ◌≢◌, slice_index_or, Option}
+use Rattle.std.specs.Option.{is_some, unwrap_or}
 use Rattle.refusals.specs.Refusals.{Answer, ok, refused}
 use Rattle.names.specs.Names.{nul_within}
 use Rattle.text.specs.Utf8.{well_formed, WellFormed}
@@ -26,11 +27,11 @@ has_text name = has_text_before (first_nul name) name
 unfoldable pub text_of : List ℕ → List ℕ
 text_of name = cond (has_text name) (part_before (first_nul name) name) []
 
--- a yes or no, and a number of bytes at the front of a name, that say its text
-pub record FoundText (name : List ℕ) (has : Bool) (size : ℕ) : Type 0 where
-  pub said : has ≡ has_text name
-  pub inside : size ≤ length name
-  pub part : take size name ≡ text_of name
+-- a number of bytes at the front of a name, or none, that says its text
+pub record FoundText (name : List ℕ) (found : Option ℕ) : Type 0 where
+  pub said : is_some found ≡ has_text name
+  pub inside : unwrap_or found 0 ≤ length name
+  pub part : take (unwrap_or found 0) name ≡ text_of name
 
 -- What the answers of `has_text` and `text` mean, without the definitions above.
 

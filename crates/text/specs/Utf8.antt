@@ -28,6 +28,10 @@ table =
 unfoldable pub within : Range → ℕ → Bool
 within (range first last) byte = nat_le first byte && nat_le byte last
 
+-- the range that the code's first and last byte are
+abbrev pub range_of : ℕ × ℕ → Range
+range_of (first, last) = range first last
+
 -- a row's sequence stands at the front of the bytes
 unfoldable pub stands : Row → List ℕ → Bool
 stands [] bytes = true

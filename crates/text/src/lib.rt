@@ -3,155 +3,73 @@
 // text a name has, and the Unicode Standard's table 3-7 what is well-formed.
 #![tactic(auto)]
 
-ghost use Rattle.std.specs.Prelude.{◌≡◌, ◌<◌, ◌&&◌, [], ◌∷◌, length, drop};
-ghost use Rattle.text.specs.Utf8.{range, table, within, stands, front_length, well_formed};
+ghost use Rattle.std.specs.Prelude.{◌≡◌, ◌<◌, map, drop, MatchOption};
+ghost use Rattle.text.specs.Utf8.{table, range_of, stands, front_length, well_formed};
 ghost use Rattle.text.specs.Text.{has_text, text_of, FoundText};
 
+// Unicode's table 3-7, a row a line, in its order: for each byte of the sequence the first and the
+// last of its range.
+const TABLE: [&[(u8, u8)]; 9] = [
+    &[(0x00, 0x7F)],
+    &[(0xC2, 0xDF), (0x80, 0xBF)],
+    &[(0xE0, 0xE0), (0xA0, 0xBF), (0x80, 0xBF)],
+    &[(0xE1, 0xEC), (0x80, 0xBF), (0x80, 0xBF)],
+    &[(0xED, 0xED), (0x80, 0x9F), (0x80, 0xBF)],
+    &[(0xEE, 0xEF), (0x80, 0xBF), (0x80, 0xBF)],
+    &[(0xF0, 0xF0), (0x90, 0xBF), (0x80, 0xBF), (0x80, 0xBF)],
+    &[(0xF1, 0xF3), (0x80, 0xBF), (0x80, 0xBF), (0x80, 0xBF)],
+    &[(0xF4, 0xF4), (0x80, 0x8F), (0x80, 0xBF), (0x80, 0xBF)],
+];
 
-// Whether the byte lies in a range.
-fn is_within(first: u8, last: u8, byte: u8) -> bool
-    ensures { result ≡ within (range first last) byte }
+// Whether the row's sequence stands at the front of the bytes.
+fn stands(row: &[(u8, u8)], bytes: &[u8]) -> bool
+    ensures { result ≡ stands (map range_of row.now) bytes.now }
 {
-    first <= byte && byte <= last
+    let mut pairs = row.iter().zip(bytes);
+    row.len() <= bytes.len() && pairs.all(|(&(first, last), &byte)| first <= byte && byte <= last)
 }
 
-// Whether a byte of a range stands at `at`.
-fn has_one(bytes: &[u8], at: usize, first: u8, last: u8) -> bool
-    ensures { result ≡ stands (range first last ∷ []) (drop at bytes.now) }
+// The bytes after the sequence at their front, if one stands there.
+fn after_sequence(bytes: &[u8]) -> Option<&[u8]>
+    ensures { MatchOption result (front_length table bytes.now ≡ 0) (λ rest. (0 < front_length table bytes.now) × (rest.now ≡ drop (front_length table bytes.now) bytes.now)) }
 {
-    if at < bytes.len() {
-        is_within(first, last, bytes[at])
-    } else {
-        false
-    }
-}
-
-// Whether what was looked for is found, and a byte of a range stands at `at`.
-fn and_one(found: bool, bytes: &[u8], at: usize, first: u8, last: u8) -> bool
-    ensures { result ≡ (found && stands (range first last ∷ []) (drop at bytes.now)) }
-{
-    if found {
-        has_one(bytes, at, first, last)
-    } else {
-        false
-    }
-}
-
-// Whether two bytes stand at `at`, the first in the range a and the second in the range b.
-fn has_two(bytes: &[u8], at: usize, a_first: u8, a_last: u8, b_first: u8, b_last: u8) -> bool
-    requires { at < length bytes.now }
-    ensures { result ≡ stands (range a_first a_last ∷ range b_first b_last ∷ []) (drop at bytes.now) }
-{
-    let one = has_one(bytes, at, a_first, a_last);
-    and_one(one, bytes, at + 1, b_first, b_last)
-}
-
-// The same of three bytes, the third in 80..BF as in each row of the table.
-fn has_three(bytes: &[u8], at: usize, a_first: u8, a_last: u8, b_first: u8, b_last: u8) -> bool
-    requires { at < length bytes.now }
-    ensures { result ≡ stands (range a_first a_last ∷ range b_first b_last ∷ range 0x80 0xBF ∷ []) (drop at bytes.now) }
-{
-    let two = has_two(bytes, at, a_first, a_last, b_first, b_last);
-    and_one(two, bytes, at + 2, 0x80, 0xBF)
-}
-
-// The same of four bytes, the third and the fourth in 80..BF.
-fn has_four(bytes: &[u8], at: usize, a_first: u8, a_last: u8, b_first: u8, b_last: u8) -> bool
-    requires { at < length bytes.now }
-    ensures { result ≡ stands (range a_first a_last ∷ range b_first b_last ∷ range 0x80 0xBF ∷ range 0x80 0xBF ∷ []) (drop at bytes.now) }
-{
-    let three = has_three(bytes, at, a_first, a_last, b_first, b_last);
-    and_one(three, bytes, at + 3, 0x80, 0xBF)
-}
-
-// How long the table's sequence at `at` is, 0 where none stands there: a test a row, in its order.
-fn sequence_length(bytes: &[u8], at: usize) -> usize
-    requires { at < length bytes.now }
-    ensures { result ≡ front_length table (drop at bytes.now) }
-{
-    if has_one(bytes, at, 0x00, 0x7F) {
-        return 1;
-    }
-    if has_two(bytes, at, 0xC2, 0xDF, 0x80, 0xBF) {
-        return 2;
-    }
-    if has_three(bytes, at, 0xE0, 0xE0, 0xA0, 0xBF) {
-        return 3;
-    }
-    if has_three(bytes, at, 0xE1, 0xEC, 0x80, 0xBF) {
-        return 3;
-    }
-    if has_three(bytes, at, 0xED, 0xED, 0x80, 0x9F) {
-        return 3;
-    }
-    if has_three(bytes, at, 0xEE, 0xEF, 0x80, 0xBF) {
-        return 3;
-    }
-    if has_four(bytes, at, 0xF0, 0xF0, 0x90, 0xBF) {
-        return 4;
-    }
-    if has_four(bytes, at, 0xF1, 0xF3, 0x80, 0xBF) {
-        return 4;
-    }
-    if has_four(bytes, at, 0xF4, 0xF4, 0x80, 0x8F) {
-        return 4;
-    }
-    0
+    let row = TABLE.iter().find(|row| stands(row, bytes))?;
+    Some(&bytes[row.len()..])
 }
 
 // Whether the bytes are well-formed UTF-8.
 pub fn well_formed(bytes: &[u8]) -> bool
     ensures { result ≡ well_formed bytes.now }
 {
-    let mut at = 0;
-    while at < bytes.len() {
-        let size = sequence_length(bytes, at);
-        if size == 0 {
+    let mut left = bytes;
+    while !left.is_empty() {
+        let Some(rest) = after_sequence(left) else {
             return false;
-        }
-        at += size;
+        };
+        left = rest;
     }
     true
 }
 
-// The text of a name: whether it has one, and how many bytes at its front that is.
-#[derive(Clone, Copy)]
-struct TextPart {
-    has: bool,
-    size: usize,
-}
-
-// The Rust's `from_bytes_until_nul` and `to_str`, one after the other.
-fn find_text(name: &[u8]) -> TextPart
-    ensures { FoundText name.now result.has result.size }
+// How many bytes of a name are its text, if it has one. The Rust's `from_bytes_until_nul` and
+// `to_str`, one after the other.
+fn text_len(name: &[u8]) -> Option<usize>
+    ensures { FoundText name.now result }
 {
-    match names::find_nul(name, 0, name.len()) {
-        Ok(next) => {
-            let end = next - 1;
-            let has = well_formed(&name[..end]);
-            let size = if has { end } else { 0 };
-            TextPart { has, size }
-        }
-        Err(_) => TextPart {
-            has: false,
-            size: 0,
-        },
-    }
+    let end = names::find_nul(name, 0, name.len()).ok()? - 1;
+    well_formed(&name[..end]).then_some(end)
 }
 
 // Whether a name has a text: it tells an empty text from none.
 pub fn has_text(name: &[u8]) -> bool
     ensures { result ≡ has_text name.now }
 {
-    let found = find_text(name);
-    found.has
+    text_len(name).is_some()
 }
 
 // The text of a name: the very bytes, at the front of the caller's.
 pub fn text(name: &[u8]) -> &[u8]
     ensures { (result.now ≡ text_of name.now) × (result.ref_ptr ≡ name.entry.ref_ptr) }
 {
-    let found = find_text(name);
-    let end = found.size;
-    &name[..end]
+    &name[..text_len(name).unwrap_or(0)]
 }

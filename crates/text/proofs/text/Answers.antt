@@ -1,7 +1,0 @@
--- `text` meets its contract: the part that `find_text` says.
-use mathlib.Core.Path.{sym}
-use lib.Seq.{length-take-le}
-use Rattle.text.proofs.text.Goals as goal
-
-pub slice_bounds-result-end : goal.slice_bounds-result-end
-slice_bounds-result-end c = sym (length-take-le _ _ c.find_text-found.ensures.inside)
