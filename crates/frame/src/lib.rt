@@ -1,7 +1,7 @@
 // Frames, opened and wrapped in one place, whatever is inside. specs/Frame.antt says how a frame is written and
 // what its parts are in a slice. `judge` reads the fields of a reply and calls `finish`; `encode` writes the payload
 // of a command and calls `wrap`. Document 01, "The envelope"; document 02, W2.
-#![tactic(auto)]
+#![tactic(auto, using(crate::proofs::Ways::ways))]
 
 ghost use Rattle.std.specs.Prelude.{◌≡◌, ◌+◌, ◌≤◌, length};
 ghost use Rattle.refusals.specs.Refusals.{consumed};

@@ -59,3 +59,6 @@ module _ (s : List ℕ) where
 
         pub length-right : n ≡ read → finish_of s n ≡ judge_of s
         length-right same = rw (headed, ← lent-whole 2 s, ← fields, eq-eqb n read same)
+
+-- what the check is given for `judge`
+pub ruleset ways = (no_start, start-wrong, no_length, no-id, fields-wrong, length-wrong, length-right)

@@ -1,7 +1,7 @@
 // The envelope: `judge` decides everything about a frame (taken whole, refused, or not enough yet)
 // and builds no record. What follows the payload is judged by `frame::finish`. Ports the order of `decode` in
 // src/command.rs; document 01, "The envelope".
-#![tactic(auto)]
+#![tactic(auto, using(crate::proofs::Order::ways))]
 
 ghost use Rattle.std.specs.Prelude.{◌≡◌};
 ghost use Rattle.refusals.specs.Refusals.{consumed};
@@ -14,27 +14,16 @@ use refusals::DecodeError;
 pub fn judge(buf: &[u8]) -> Result<usize, DecodeError>
     ensures { consumed result ≡ judge_of buf.now }
 {
-    if buf.len() <= 0 {
-        return Err(DecodeError::IncompleteData);
-    }
-    if buf[0] != format::FRAME_START_SHORT {
-        return Err(DecodeError::InvalidFrame);
-    }
-    if buf.len() <= 1 {
-        return Err(DecodeError::IncompleteData);
-    }
-    let payload_len = buf[1];
-    if buf.len() <= format::PAYLOAD_AT {
-        return Err(DecodeError::IncompleteData);
-    }
-    let id = buf[format::PAYLOAD_AT];
-    match layout::fields_end(&buf[format::PAYLOAD_AT..], id, 1) {
-        Ok(read) => {
-            if payload_len as usize != read {
+    match buf {
+        [] => Err(DecodeError::IncompleteData),
+        [start, ..] if *start != format::FRAME_START_SHORT => Err(DecodeError::InvalidFrame),
+        [_] | [_, _] => Err(DecodeError::IncompleteData),
+        [_, payload_len, id, ..] => {
+            let read = layout::fields_end(&buf[format::PAYLOAD_AT..], *id, 1)?;
+            if *payload_len as usize != read {
                 return Err(DecodeError::InvalidFrame);
             }
-            frame::finish(buf, payload_len)
+            frame::finish(buf, *payload_len)
         }
-        Err(e) => Err(e),
     }
 }

@@ -1,13 +1,7 @@
 -- `frame::wrap` meets its contract: the room is tested before the first write, so none of them is refused.
 use native.Mathlib.Omega.{arith}
-use Rattle.frame.proofs.Wrapped.{too_long, too_small, not-refused, wrapped}
+use Rattle.frame.proofs.Wrapped.{not-refused, wrapped}
 use Rattle.frame.proofs.wrap.Goals as goal
-
-pub returns-then-len-gt-PAYLOAD_MAX : goal.returns-then-len-gt-PAYLOAD_MAX
-returns-then-len-gt-PAYLOAD_MAX c = too_long _ _ c.if-len-gt-PAYLOAD_MAX.true
-
-pub returns-then-buf-len : goal.returns-then-buf-len
-returns-then-buf-len c = too_small _ _ c.if-len-gt-PAYLOAD_MAX.false c.if-buf-len.true
 
 pub returns-in_err-pack_u8 : goal.returns-in_err-pack_u8
 returns-in_err-pack_u8 c = absurd (not-refused 1 _ _ (omega arith) c.in_err-pack_u8.ensures)
