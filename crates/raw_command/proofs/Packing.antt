@@ -1,9 +1,9 @@
 -- A plain command's parts, and the writes of packer that are their bytes.
 use mathlib.Core.Path.{◌≡◌, ◌∙◌}
-use mathlib.Core.List.{List, [], ◌∷◌}
+use mathlib.Core.List.{List, [], ◌∷◌, ◌++◌}
 use Prim.Native.Nat.{ℕ, ◌+◌, ◌^◌, ◌≤◌, ◌<◌}
 use native.Mathlib.Omega.{arith}
-use lib.ListN.{length}
+use lib.ListN.{length, length-append}
 use Rattle.packer.specs.Numbers.{big_endian}
 use Rattle.packer.specs.Packing.{PackIs}
 use Rattle.std.specs.Prelude.{Result, Ok, Err}
@@ -45,21 +45,26 @@ module _ {bytes l after : List ℕ} {at : ℕ} (room : at + length bytes ≤ len
   pub never-refused : {A : Type 0} {error : EncodeError} → PackIs bytes l at (Err error) after → A
   never-refused w = let fits = fits-answer bytes l at room in let e = w.answer in none (cc)
 
--- ---- the id, and then the number, are the bytes of the parts
+-- one write, and another where it left off
+pub then : {p q l m after : List ℕ} {at mid : ℕ} {s : Result ℕ EncodeError} → at + length (p ++ q) ≤ length l → PackIs p l at (Ok mid) m
+    → PackIs q m mid s after → PackIs (p ++ q) l at s after
+then {p} {q} {l} {m} {after} {at} {mid} {s} room w v =
+    let first : at + length p ≤ length l = omega (arith, length-append p q) in
+    let behind = ends-behind first w in
+    two-packs room w (rw behind at v)
 
-pub id-room : (id : ℕ) (l : List ℕ) (at : ℕ) → at + 1 ≤ length l → at + length (big_endian 1 id) ≤ length l
-id-room id l at room = omega (arith, digits-length 1 id)
+-- a byte is a number of one
+pub byte-room : (n : ℕ) (l : List ℕ) (at : ℕ) → at + 1 ≤ length l → at + length (big_endian 1 n) ≤ length l
+byte-room n l at room = omega (arith, digits-length 1 n)
+
+-- ---- the id, and then the number, are the bytes of the parts
 
 pub parts-packed
     : {l m after : List ℕ} {at next : ℕ} {s : Result ℕ EncodeError} (parts : Parts) → parts.id < 256
     → at + 1 + parts.width ≤ length l → PackIs (big_endian 1 parts.id) l at (Ok next) m
     → PackIs (big_endian parts.width parts.number) m next s after → PackIs (parts_bytes parts) l at s after
-parts-packed {l} {m} {after} {at} {next} {s} parts small room w v =
-    let behind = ends-behind (id-room parts.id l at (omega arith)) w in
-    let size = digits-length 1 parts.id in
-    let here : next ≡ at + 1 = omega arith in
-    two-packs {p = parts.id ∷ []} {q = big_endian parts.width parts.number} (omega (arith, digits-length parts.width parts.number))
-    (rw (byte parts.id small) at w) (rw here at v)
+parts-packed parts small room w v =
+    then {p = parts.id ∷ []} {q = big_endian parts.width parts.number} (omega (arith, digits-length parts.width parts.number)) (rw (byte parts.id small) at w) v
 
 -- where they do not fit, nothing is written
 pub parts-no-room : (parts : Parts) (l : List ℕ) (at : ℕ) → length l < at + 1 + parts.width → PackIs (parts_bytes parts) l at (Err BufferTooSmall) l

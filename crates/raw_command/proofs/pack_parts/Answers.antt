@@ -1,7 +1,7 @@
 -- `raw_command::pack_parts` meets its contract.
 use native.Mathlib.Omega.{arith}
 use borrow.Author.Rules.{rules}
-use Rattle.raw_command.proofs.Packing.{id-room, never-refused, parts-packed, parts-no-room}
+use Rattle.raw_command.proofs.Packing.{byte-room, never-refused, parts-packed, parts-no-room}
 use Rattle.raw_command.proofs.pack_parts.Goals as goal
 use Rattle.raw_command.proofs.pack_parts.Goals.{then-room-width-via-then-room-width, then-room-width-via-else-room-width+then-room-width-2}
 
@@ -14,7 +14,7 @@ returns-then-room-width c =
     ]
 
 pub returns-in_err-next : goal.returns-in_err-next
-returns-in_err-next c = never-refused (id-room c.args.parts.id c.args.buf.now c.args.pos (omega arith)) c.in_err-next.ensures
+returns-in_err-next c = never-refused (byte-room c.args.parts.id c.args.buf.now c.args.pos (omega arith)) c.in_err-next.ensures
 
 pub returns : goal.returns
 returns c =
