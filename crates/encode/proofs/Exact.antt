@@ -5,9 +5,11 @@ use mathlib.Core.List.{List, ◌++◌}
 use Prim.Native.Nat.{ℕ}
 use native.Mathlib.Omega.{arith}
 use lib.ListN.{length, drop}
+use Rattle.std.specs.Prelude.{Err}
+use Rattle.refusals.specs.Refusals.{encode_refusal}
 use Rattle.refusals.specs.declared.EncodeError.{EncodeError}
 use Rattle.refusals.specs.OneAnswer.{ToldApart}
-use Rattle.refusals.proofs.Unique.{told-apart, write_back, encode-back}
+use Rattle.refusals.proofs.Unique.{answer-back, encode_back, encode-back}
 use Rattle.frame.specs.Frame.{short, frame_of}
 use Rattle.frame.proofs.Laws.{frame-laws}
 use Rattle.frame.specs.Wrapping.{wrap_after}
@@ -16,12 +18,10 @@ use Rattle.encode.specs.Payload.{payload_of}
 use Rattle.encode.specs.Written.{EncodeWrites}
 use Rattle.encode.specs.OneAnswer.{OneAnswer}
 use Rattle.command.specs.declared.Command.{Command}
-use Rattle.encode.specs.declared.Encoded.{Encoded}
-use Rattle.encode.specs.declared.Encoded.TheVariants.{Written, Refused}
 use Rattle.frame.proofs.Wrapped.{answer-given, after-answer}
 
 -- "nothing; buffer unchanged": a refused encode writes nothing, whatever was asked for
-pub refused-writes-nothing : (command : Command) (hops l after : List ℕ) (e : EncodeError) → EncodeIs command hops l (Refused e) after → after ≡ l
+pub refused-writes-nothing : (command : Command) (hops l after : List ℕ) (e : EncodeError) → EncodeIs command hops l (Err e) after → after ≡ l
 unfolding wrap_after
 refused-writes-nothing command hops l after e w = w.holds ∙ rw (← w.answer)
 
@@ -35,13 +35,8 @@ encode-writes command hops buffer after count w =
     let parts = (frame-laws short).written payload (drop count buffer) (omega arith) in
     record { begins = held; framed = rw held parts.framed; payload = rw held parts.carries }
 
-encoded-back : (a : Encoded) → write_back Written Refused (encoded a) ≡ a
-unfolding write_back
-encoded-back (Written count) = refl
-encoded-back (Refused e) = ap Refused (encode-back e)
-
 encoded-unique : ToldApart encoded
-encoded-unique = told-apart encoded (write_back Written Refused) encoded-back
+encoded-unique = answer-back encode_refusal encode_back encode-back
 
 pub one_answer : OneAnswer
 one_answer = record { encode = λ command hops buffer r s after other v w. (encoded-unique r s (v.answer ∙ sym w.answer), v.holds ∙ sym w.holds) }

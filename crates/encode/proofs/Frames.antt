@@ -4,6 +4,8 @@ use mathlib.Core.List.{List, [], ◌∷◌, ◌++◌}
 use Prim.Native.Nat.{ℕ, ◌-◌, ◌≤◌, ◌<◌}
 use lib.ListN.{length, drop, get_or}
 use Rattle.refusals.specs.Refusals.{ok}
+use Rattle.std.specs.Prelude.{Result, Err}
+use Rattle.refusals.specs.declared.EncodeError.{EncodeError}
 use Rattle.refusals.specs.declared.EncodeError.TheVariants.{BufferTooSmall, PayloadTooLong}
 use Rattle.command.specs.Commands.{bytes_of}
 use Rattle.command.specs.declared.Command.{Command}
@@ -14,39 +16,23 @@ use Rattle.frame.specs.Wrapping.{wrap_answer}
 use Rattle.frame.proofs.Wrapped.{answer-too-long, answer-too-small, answer-fits, after-answer}
 use Rattle.encode.specs.Payload.{hop_bytes, payload_of}
 use Rattle.encode.specs.Encode.{encoded, EncodeIs}
-use Rattle.encode.specs.Writes.{PutIs}
-use Rattle.encode.specs.declared.Encoded.{Encoded}
-use Rattle.encode.specs.declared.Encoded.TheVariants.{Refused}
-use Rattle.encode.proofs.Payloads.{one-hop, all-hops}
-use Rattle.encode.proofs.Puts.{then}
-
--- ---- runs of writes
-pub hop-put : {l m n after : List ℕ} {at mid end next : ℕ} (hops : List ℕ) (left : ℕ) → 0 < left → left ≤ length hops → PutIs (id_of ForwardCan ∷ []) l at mid m
-    → PutIs (get_or hops (length hops - left) 0 ∷ []) m mid end n → PutIs (hop_bytes (drop (length hops - (left - 1)) hops)) n end next after
-    → PutIs (hop_bytes (drop (length hops - left) hops)) l at next after
-hop-put hops left h k f g rest = rw (one-hop hops left h k) (then f (then g rest))
-
-pub payload-put : {l m after : List ℕ} {at mid next : ℕ} (command : Command) (hops : List ℕ) → PutIs (hop_bytes (drop (length hops - length hops) hops)) l at mid m
-    → PutIs (bytes_of command) m mid next after → PutIs (payload_of command hops) l at next after
-unfolding payload_of
-payload-put command hops f g = then (rw (all-hops hops) at f) g
 
 -- ---- the answer of the whole
 module _ (command : Command) (hops l : List ℕ) where
   abbrev payload : List ℕ
   payload = payload_of command hops
 
-  pub too_long : payload_max < length payload → EncodeIs command hops l (Refused PayloadTooLong) l
+  pub too_long : payload_max < length payload → EncodeIs command hops l (Err PayloadTooLong) l
   too_long h =
       let a : wrap_answer (length payload) (length l) ≡ _ = answer-too-long _ _ h in
       record { answer = sym a; holds = sym (after-answer payload l _ a) }
 
-  pub too_small : length payload ≤ payload_max → length l < frame_size short (length payload) → EncodeIs command hops l (Refused BufferTooSmall) l
+  pub too_small : length payload ≤ payload_max → length l < frame_size short (length payload) → EncodeIs command hops l (Err BufferTooSmall) l
   too_small h k =
       let a : wrap_answer (length payload) (length l) ≡ _ = answer-too-small _ _ h k in
       record { answer = sym a; holds = sym (after-answer payload l _ a) }
 
-  pub framed : {after : List ℕ} {a : Encoded} (count : ℕ) → length payload ≤ payload_max → frame_size short (length payload) ≤ length l → count ≡ frame_size short (length payload)
+  pub framed : {after : List ℕ} {a : Result ℕ EncodeError} (count : ℕ) → length payload ≤ payload_max → frame_size short (length payload) ≤ length l → count ≡ frame_size short (length payload)
       → encoded a ≡ ok count → after ≡ frame_of short payload ++ drop (length (frame_of short payload)) l → EncodeIs command hops l a after
   framed count h k size answers holds =
       let a : wrap_answer (length payload) (length l) ≡ _ = answer-fits _ _ h k in

@@ -1,5 +1,5 @@
-pub mod Puts
 pub mod Payloads
+pub mod Writes
 pub mod Frames
 pub mod Exact
 pub mod Limits

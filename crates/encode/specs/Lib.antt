@@ -1,6 +1,5 @@
 pub mod Payload
 pub mod Encode
-pub mod Writes
 pub mod OneAnswer
 pub mod Limits
 pub mod Written

@@ -1,16 +1,16 @@
 -- How many hops a command may have. Document 01, "Commands": "127 hops before Alive give 255 bytes and pass; 125 before
 -- SetRpm pass; 126 before SetRpm are PayloadTooLong."
-use Rattle.std.specs.Prelude.{◌≡◌, List, ℕ, ◌≤◌, ℤ, length}
+use Rattle.std.specs.Prelude.{◌≡◌, List, ℕ, Result, ◌≤◌, ℤ, length}
 use Rattle.refusals.specs.Refusals.{Answer, ok, refused, payload_too_long}
+use Rattle.refusals.specs.declared.EncodeError.{EncodeError}
 use Rattle.command.specs.declared.Command.{Command}
 use Rattle.command.specs.declared.Command.TheVariants.{SetRpm, Alive}
-use Rattle.encode.specs.declared.Encoded.{Encoded}
 use Rattle.encode.specs.Encode.{encoded, EncodeIs}
 use Rattle.encode.specs.Payload.{payload_of}
 
 -- `encode` of the command behind any hops and into any buffer returns the answer, if these meet a condition
 abbrev pub Returns : Command → (List ℕ → List ℕ → Type 0) → Answer ℕ → Type 0
-Returns command If answer = (hops buffer : List ℕ) (r : Encoded) (after : List ℕ) → If hops buffer → EncodeIs command hops buffer r after → encoded r ≡ answer
+Returns command If answer = (hops buffer : List ℕ) (r : Result ℕ EncodeError) (after : List ℕ) → If hops buffer → EncodeIs command hops buffer r after → encoded r ≡ answer
 
 pub record HopLimits : Type 0 where
   pub alive-after-127 : Returns Alive (λ hops buffer. (length hops ≡ 127) × (260 ≤ length buffer)) (ok 260)

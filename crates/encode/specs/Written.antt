@@ -1,8 +1,7 @@
 -- What a successful `encode` leaves in the buffer: a frame that carries the payload.
-use Rattle.std.specs.Prelude.{◌≡◌, List, ◌++◌, ℕ, drop}
+use Rattle.std.specs.Prelude.{◌≡◌, List, ◌++◌, ℕ, Ok, drop}
 use Rattle.frame.specs.Frame.{short, frame_of, payload_in, Framed}
 use Rattle.command.specs.declared.Command.{Command}
-use Rattle.encode.specs.declared.Encoded.TheVariants.{Written}
 use Rattle.encode.specs.Encode.{EncodeIs}
 use Rattle.encode.specs.Payload.{payload_of}
 
@@ -15,5 +14,5 @@ pub record WritesFrame (command : Command) (hops buffer after : List ℕ) (count
 
 abbrev pub EncodeWrites : Type 0
 EncodeWrites =
-    (command : Command) (hops buffer after : List ℕ) (count : ℕ) → EncodeIs command hops buffer (Written count) after
+    (command : Command) (hops buffer after : List ℕ) (count : ℕ) → EncodeIs command hops buffer (Ok count) after
     → WritesFrame command hops buffer after count

@@ -57,6 +57,9 @@ then {p} {q} {l} {m} {after} {at} {mid} {s} room w v =
 pub byte-room : (n : ℕ) (l : List ℕ) (at : ℕ) → at + 1 ≤ length l → at + length (big_endian 1 n) ≤ length l
 byte-room n l at room = omega (arith, digits-length 1 n)
 
+pub byte-behind : (n : ℕ) {at next : ℕ} {l after : List ℕ} → at + 1 ≤ length l → PackIs (big_endian 1 n) l at (Ok next) after → next ≡ at + 1
+byte-behind n {at} {next} {l} {after} room w = let behind = ends-behind (byte-room n l at room) w in omega (arith, digits-length 1 n)
+
 -- ---- the id, and then the number, are the bytes of the parts
 
 pub parts-packed

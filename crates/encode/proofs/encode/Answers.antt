@@ -1,8 +1,9 @@
 -- `encode::encode` meets its contract.
-use mathlib.Core.Path.{refl, ◌∙◌}
+use mathlib.Core.Path.{refl}
 use native.Mathlib.Omega.{arith}
 use Rattle.frame.proofs.Wrapped.{payload-wrapped}
 use Rattle.encode.specs.Payload.{payload_of}
+use Rattle.raw_command.proofs.Packing.{never-refused}
 use Rattle.encode.proofs.Frames.{too_long, too_small, framed}
 use Rattle.command.proofs.Sizes.{sizes}
 use Rattle.encode.proofs.Payloads.{payload-length}
@@ -30,9 +31,12 @@ returns-then-buf-frame_len c =
     let n = payload-length s.command s.hops.now in
     too_small s.command s.hops.now s.buf.now (omega arith) (omega arith)
 
+pub returns-in_err-pack_payload : goal.returns-in_err-pack_payload
+returns-in_err-pack_payload c = never-refused (omega (arith, payload-length c.args.command c.args.hops.now)) c.in_err-pack_payload.ensures
+
 pub returns : goal.returns
 returns c =
     let s = c.args in
     let n = payload-length s.command s.hops.now in
-    let both = payload-wrapped (payload_of s.command s.hops.now) (omega arith) (omega arith) (c.pack_payload.ensures (omega arith)) (omega arith) c.wrap.ensures in
-    framed s.command s.hops.now s.buf.now _ (omega arith) (omega arith) refl (c.answered.ensures ∙ both.0) both.1
+    let both = payload-wrapped (payload_of s.command s.hops.now) (omega arith) (omega arith) c.in_ok-pack_payload.ensures (omega arith) c.wrap.ensures in
+    framed s.command s.hops.now s.buf.now _ (omega arith) (omega arith) refl both.0 both.1

@@ -1,11 +1,12 @@
 -- `encode::pack_payload` meets its contract.
-use Rattle.encode.proofs.Frames.{payload-put}
-use Rattle.encode.proofs.Puts.{placed}
+use native.Mathlib.Omega.{arith}
+use Rattle.raw_command.proofs.Packing.{never-refused}
+use Rattle.encode.proofs.Payloads.{hops-length}
+use Rattle.encode.proofs.Writes.{payload-packed}
 use Rattle.encode.proofs.pack_payload.Goals as goal
 
+pub returns-in_err-next : goal.returns-in_err-next
+returns-in_err-next c = never-refused (omega (arith, hops-length c.args.hops.now)) c.in_err-next.ensures
+
 pub returns : goal.returns
-returns c =
-    let written = c.pack_into in
-    let s = c.args in
-    payload-put s.command s.hops.now c.pack_hops-next.ensures
-    (placed written.result written.ensures c.place_after.ensures)
+returns c = payload-packed c.args.command c.args.hops.now c.requires c.in_ok-next.ensures c.pack_into.ensures
