@@ -8,8 +8,8 @@ use native.Mathlib.Nat.{le_refl}
 use lib.Dec.{eqb}
 use lib.ListN.{get_or, drop}
 use borrow.Author.Tests.{eqb-true, eqb-false, ne_eqb}
-use Rattle.refusals.specs.Refusals.{Answer, ok, refused, consumed, unknown_packet}
-use Rattle.refusals.specs.declared.Consumed.TheVariants.{To}
+use Rattle.refusals.specs.Refusals.{Answer, ok, refused, unknown_packet}
+use Rattle.std.specs.Prelude.{Ok}
 use Rattle.refusals.proofs.Different.{none}
 use Rattle.format.specs.Format.{all_values}
 use Rattle.packer.specs.Numbers.{numbers_at}
@@ -37,7 +37,6 @@ use Rattle.reply.specs.Records.{record_in, received, masks, fields_at, RecordsOf
 use Rattle.reply.specs.declared.Kind.{Kind}
 use Rattle.reply.specs.declared.Kind.TheVariants as Kind
 use Rattle.reply.specs.declared.CommandReply.{CommandReply}
-use Rattle.reply.specs.declared.Decoded.{Decoded}
 
 -- the claim of all three records, from the claim of each
 module _ (s : List ℕ) (start : ℕ) (reply : CommandReply) {values setup stats : ℕ} where
@@ -151,12 +150,12 @@ module _ (s : List ℕ) (good : GoodFrame s) where
 -- ---- whatever `decode` returns of a slice
 
 -- where that is a good frame
-pub decoded-told : (s : List ℕ) (d : Decoded) → decoded d ≡ decode_of s → (count : ℕ) → d.answer ≡ To count → Told s d.reply
+pub decoded-told : (s : List ℕ) (count : ℕ) (reply : CommandReply) → decoded (Ok (count, reply)) ≡ decode_of s → Told s reply
 unfolding decode_of reply_by reply_in
-decoded-told s d is count answer =
-    let e : judge_of s ≡ ok count = sym (ap (λ (r : Decode). r.answer) is) ∙ ap consumed answer in
-    let reply : d.reply ≡ reply_of (payload_in short s) = ap (λ (r : Decode). r.reply) is ∙ ap (λ (a : Answer ℕ). reply_by a s) e in
-    rw reply (reply-told s ((good-frames.judged s count).0 e).0)
+decoded-told s count reply is =
+    let e : judge_of s ≡ ok count = sym (ap (λ (r : Decode). r.answer) is) in
+    let same : reply ≡ reply_of (payload_in short s) = ap (λ (r : Decode). r.reply) is ∙ ap (λ (a : Answer ℕ). reply_by a s) e in
+    rw same (reply-told s ((good-frames.judged s count).0 e).0)
 
 by-records : (s : List ℕ) (a : Answer ℕ) → judge_of s ≡ a → RecordsOf s (reply_by a s)
 unfolding reply_by reply_in

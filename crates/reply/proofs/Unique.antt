@@ -3,9 +3,11 @@ use mathlib.Core.Path.{◌≡◌, refl, ap}
 use mathlib.Core.Bool.{cond}
 use Prim.Native.Nat.{ℕ}
 use lib.Dec.{eqb}
+use Rattle.std.specs.Prelude.{Ok, Err}
+use Rattle.refusals.specs.Refusals.{decode_refusal}
 use Rattle.refusals.specs.OneAnswer.{ToldApart}
-use Rattle.refusals.proofs.Unique.{told-apart}
-use Rattle.refusals.proofs.Unique.{consumed-unique}
+use Rattle.refusals.proofs.Different.{none}
+use Rattle.refusals.proofs.Unique.{told-apart, decode_back, decode-back}
 use Rattle.reply.specs.Reply.{kind_number}
 use Rattle.reply.specs.Decode.{Decode, decoded}
 use Rattle.reply.specs.OneAnswer.{OneAnswer}
@@ -13,8 +15,15 @@ use Rattle.reply.specs.declared.Kind.{Kind}
 use Rattle.reply.specs.declared.Kind.TheVariants as Kind
 
 decode-unique : ToldApart decoded
-decode-unique a b e =
-    λ i. record { answer = consumed-unique a.answer b.answer (ap (λ (d : Decode). d.answer) e) i; reply = ap (λ (d : Decode). d.reply) e i }
+decode-unique (Ok (count, reply)) (Ok (count2, reply2)) e =
+    let answers = ap (λ (d : Decode). d.answer) e in
+    let replies = ap (λ (d : Decode). d.reply) e in
+    cc
+decode-unique (Ok (count, reply)) (Err error) e = let answers = ap (λ (d : Decode). d.answer) e in none (cc)
+decode-unique (Err error) (Ok (count, reply)) e = let answers = ap (λ (d : Decode). d.answer) e in none (cc)
+decode-unique (Err error) (Err other) e =
+    let answers = ap (λ (d : Decode). d.answer) e in
+    ap Err (told-apart decode_refusal decode_back decode-back error other (cc))
 
 kind_back : ℕ → Kind
 kind_back n =

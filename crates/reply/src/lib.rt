@@ -1,29 +1,30 @@
-// Replies from a VESC motor controller. Ports the second half of src/command.rs: `CommandReply`, its reading, and `decode`. It was
-// written for an older Rattle, whose enums held no arrays: a reply is a struct, the kind and one record of each sort.
-// Every function takes every slice.
+// Replies from a VESC motor controller. Ports the second half of src/command.rs: `CommandReply`, its reading, and `decode`. Where
+// the Rust has an enum, a reply is a struct: its kind, one telemetry record of each sort by value, and the names beside them, as
+// document 01 fixes it. Every function takes every slice.
 #![tactic(auto)]
 
 ghost use Rattle.std.specs.Prelude.{◌≡◌};
-ghost use Rattle.packer.specs.Numbers.{numbers_at};
-ghost use Rattle.tables.specs.Tables.{widths, values_table};
-ghost use Rattle.telemetry.specs.Telemetry.{values_of};
-ghost use Rattle.reply.specs.Reply.{kind_number, blank_of, empty_reply, with_values, get_values_of, get_values_selective_of, get_values_setup_selective_of, get_stats_of, fw_version_reply_of, fw_info_reply_of, reply_of};
+ghost use Rattle.tables.specs.Sorts.{table_of};
+ghost use Rattle.tables.specs.Rows.{padded};
+ghost use Rattle.layout.specs.Layout.{masked, raw_of};
+ghost use Rattle.reply.specs.Reply.{kind_number, blank_of, empty_reply, get_values_of, get_values_selective_of, get_values_setup_selective_of, get_stats_of, fw_version_reply_of, fw_info_reply_of, reply_of};
 ghost use Rattle.reply.specs.Decode.{reply_in, decode_of, decoded};
 
 use firmware::{FwInfo, FwVersion};
+use refusals::DecodeError;
 use tables::Sort;
 use telemetry::{SetupValues, Stats, Values};
 
 // The kind of a reply: which of the Rust's variants it is.
-#[derive(Clone, Copy)]
+#[derive(Clone, Copy, Debug, PartialEq, Eq)]
 pub enum Kind {
-    FwVersion,
-    GetValues,
-    GetValuesSelective,
-    GetValuesSetupSelective,
-    GetStats,
-    ResetStats,
-    FwInfo,
+    FwVersion = format::FW_VERSION as isize,
+    GetValues = format::GET_VALUES as isize,
+    GetValuesSelective = format::GET_VALUES_SELECTIVE as isize,
+    GetValuesSetupSelective = format::GET_VALUES_SETUP_SELECTIVE as isize,
+    GetStats = format::GET_STATS as isize,
+    ResetStats = format::RESET_STATS as isize,
+    FwInfo = format::FW_INFO as isize,
 }
 
 // A reply: its kind says which record it carries; the others hold zeros.
@@ -37,31 +38,17 @@ pub struct CommandReply {
     pub fw_info: FwInfo,
 }
 
-// What `decode` answers: the count of a good frame with its reply, or the refusal with the empty one.
-#[derive(Clone, Copy)]
-pub struct Decoded {
-    pub answer: Result<usize, DecodeError>,
-    pub reply: CommandReply,
-}
-
 impl Kind {
     // A reply's number is its id.
     pub fn number(self) -> u8
         ensures { result ≡ kind_number self }
     {
-        match self {
-            Kind::FwVersion => format::FW_VERSION,
-            Kind::GetValues => format::GET_VALUES,
-            Kind::GetValuesSelective => format::GET_VALUES_SELECTIVE,
-            Kind::GetValuesSetupSelective => format::GET_VALUES_SETUP_SELECTIVE,
-            Kind::GetStats => format::GET_STATS,
-            Kind::ResetStats => format::RESET_STATS,
-            Kind::FwInfo => format::FW_INFO,
-        }
+        self as u8
     }
 }
 
 // A reply of a kind, with nothing in its records.
+#[tactic(auto, unfolding(crate::specs::Reply::blank_of))]
 fn blank(kind: Kind) -> CommandReply
     ensures { result ≡ blank_of kind }
 {
@@ -76,81 +63,86 @@ fn blank(kind: Kind) -> CommandReply
 }
 
 // The reply where there is none.
+#[tactic(auto, unfolding(crate::specs::Reply::empty_reply))]
 pub fn empty() -> CommandReply
     ensures { result ≡ empty_reply }
 {
     blank(Kind::FwVersion)
 }
 
-fn with_values(kind: Kind, mask: u32, payload: &[u8], at: usize) -> CommandReply
-    ensures { result ≡ with_values kind (values_of mask (numbers_at (widths mask values_table) payload.now at)) }
-{
-    let raw = tables::unpack_fields(payload, at, Sort::Values, mask);
-    let mut reply = blank(kind);
-    reply.values = telemetry::values_of(mask, raw);
-    reply
-}
-
+// GetValues carries no mask: it has all 22 bits.
 fn unpack_get_values(payload: &[u8]) -> CommandReply
     ensures { result ≡ get_values_of payload.now }
 {
-    with_values(Kind::GetValues, format::ALL_VALUES, payload, 1)
+    let raw = tables::unpack_fields(payload, 1, Sort::Values, format::ALL_VALUES);
+    CommandReply {
+        values: telemetry::values_of(format::ALL_VALUES, raw),
+        ..blank(Kind::GetValues)
+    }
 }
 
-// The fields of a masked reply follow its mask of four bytes.
+// What a masked reply carries after its id: the mask of four bytes, and the raw numbers of the fields that it has.
+pub fn masked_fields(payload: &[u8], sort: Sort) -> (u32, [u32; format::TABLE_ROWS])
+    ensures mask { result.0 ≡ (raw_of (masked (table_of sort)) payload.now 1).0 }
+    ensures numbers { result.1 ≡ padded (raw_of (masked (table_of sort)) payload.now 1).1 }
+{
+    let mask = tables::word_at(payload, 1);
+    (mask, tables::unpack_fields(payload, 5, sort, mask))
+}
+
 fn unpack_get_values_selective(payload: &[u8]) -> CommandReply
     ensures { result ≡ get_values_selective_of payload.now }
 {
-    with_values(
-        Kind::GetValuesSelective,
-        tables::word_at(payload, 1),
-        payload,
-        5,
-    )
+    let (mask, raw) = masked_fields(payload, Sort::Values);
+    CommandReply {
+        values: telemetry::values_of(mask, raw),
+        ..blank(Kind::GetValuesSelective)
+    }
 }
 
 fn unpack_get_values_setup_selective(payload: &[u8]) -> CommandReply
     ensures { result ≡ get_values_setup_selective_of payload.now }
 {
-    let mask = tables::word_at(payload, 1);
-    let raw = tables::unpack_fields(payload, 5, Sort::SetupValues, mask);
-    let mut reply = blank(Kind::GetValuesSetupSelective);
-    reply.setup_values = telemetry::setup_values_of(mask, raw);
-    reply
+    let (mask, raw) = masked_fields(payload, Sort::SetupValues);
+    CommandReply {
+        setup_values: telemetry::setup_values_of(mask, raw),
+        ..blank(Kind::GetValuesSetupSelective)
+    }
 }
 
 fn unpack_get_stats(payload: &[u8]) -> CommandReply
     ensures { result ≡ get_stats_of payload.now }
 {
-    let mask = tables::word_at(payload, 1);
-    let raw = tables::unpack_fields(payload, 5, Sort::Stats, mask);
-    let mut reply = blank(Kind::GetStats);
-    reply.stats = telemetry::stats_of(mask, raw);
-    reply
+    let (mask, raw) = masked_fields(payload, Sort::Stats);
+    CommandReply {
+        stats: telemetry::stats_of(mask, raw),
+        ..blank(Kind::GetStats)
+    }
 }
 
 fn unpack_fw_version(payload: &[u8]) -> CommandReply
     ensures { result ≡ fw_version_reply_of payload.now }
 {
-    let mut reply = blank(Kind::FwVersion);
-    reply.fw_version = firmware::unpack_fw_version(payload);
-    reply
+    CommandReply {
+        fw_version: firmware::unpack_fw_version(payload),
+        ..blank(Kind::FwVersion)
+    }
 }
 
 fn unpack_fw_info(payload: &[u8]) -> CommandReply
     ensures { result ≡ fw_info_reply_of payload.now }
 {
-    let mut reply = blank(Kind::FwInfo);
-    reply.fw_info = firmware::unpack_fw_info(payload);
-    reply
+    CommandReply {
+        fw_info: firmware::unpack_fw_info(payload),
+        ..blank(Kind::FwInfo)
+    }
 }
 
 // The reply that a good frame's payload carries, by its id.
 pub fn unpack_from(payload: &[u8]) -> CommandReply
     ensures { result ≡ reply_of payload.now }
 {
-    let id = tables::byte_at(payload, 0);
-    match id {
+    match tables::byte_at(payload, 0) {
         format::FW_VERSION => unpack_fw_version(payload),
         format::GET_VALUES => unpack_get_values(payload),
         format::GET_VALUES_SELECTIVE => unpack_get_values_selective(payload),
@@ -180,17 +172,9 @@ pub fn reply_in(frame: &[u8]) -> CommandReply
 
 // The reply that a good frame carries, or why there is none. Ports `decode` of src/command.rs: judged first, and the fields
 // read only of a good frame.
-pub fn decode(buf: &[u8]) -> Decoded
+pub fn decode(buf: &[u8]) -> Result<(usize, CommandReply), DecodeError>
     ensures { decoded result ≡ decode_of buf.now }
 {
-    match judge::judge(buf) {
-        Ok(count) => Decoded {
-            answer: Ok(count),
-            reply: reply_in(buf),
-        },
-        Err(error) => Decoded {
-            answer: Err(error),
-            reply: empty(),
-        },
-    }
+    let count = judge::judge(buf)?;
+    Ok((count, reply_in(buf)))
 }

@@ -1,16 +1,9 @@
 -- `reply::unpack_get_values_selective` meets its contract.
-use mathlib.Core.Path.{ap, ◌∙◌}
-use Prim.Native.Nat.{ℕ}
-use Rattle.packer.specs.Numbers.{numbers_at}
-use Rattle.tables.specs.Tables.{widths, values_table}
-use Rattle.layout.specs.Layout.{raw_of, raws}
-use Rattle.telemetry.specs.Telemetry.{values_of}
-use Rattle.reply.specs.Reply.{with_values, get_values_selective_of}
-use Rattle.reply.specs.declared.Kind.TheVariants.{GetValuesSelective}
+use Rattle.layout.specs.Layout.{raws}
+use Rattle.telemetry.proofs.Padded.{values-padded}
+use Rattle.reply.specs.Reply.{blank_of, get_values_selective_of}
 use Rattle.reply.proofs.unpack_get_values_selective.Goals as goal
 
 pub returns : goal.returns
-unfolding get_values_selective_of raws raw_of
-returns c =
-    c.with_values.ensures
-    ∙ ap (λ (mask : ℕ). with_values GetValuesSelective (values_of mask (numbers_at (widths mask values_table) c.args.payload.now 5))) c.word_at.ensures
+unfolding blank_of get_values_selective_of raws
+returns c = simp (c.blank.ensures, c.values_of.ensures, c.masked_fields-mask.ensures.mask, c.masked_fields-mask.ensures.numbers, values-padded)
