@@ -1,4 +1,4 @@
-pub mod Answers
+pub mod Parts
 pub mod Prefix
 pub mod Unique
 pub mod Records

@@ -159,15 +159,12 @@ pub fn unpack_from(payload: &[u8]) -> CommandReply
 pub fn reply_in(frame: &[u8]) -> CommandReply
     ensures { result ≡ reply_in frame.now }
 {
-    let len = frame.len();
-    if len < format::PAYLOAD_AT {
-        return unpack_from(&frame[len..]);
+    if frame.len() < format::PAYLOAD_AT {
+        return unpack_from(&[]);
     }
-    let end = frame[1] as usize + format::PAYLOAD_AT;
-    if len < end {
-        return unpack_from(&frame[format::PAYLOAD_AT..]);
-    }
-    unpack_from(&frame[format::PAYLOAD_AT..end])
+    let part = &frame[format::PAYLOAD_AT..];
+    let len = usize::from(frame[1]).min(part.len());
+    unpack_from(&part[..len])
 }
 
 // The reply that a good frame carries, or why there is none. Ports `decode` of src/command.rs: judged first, and the fields
