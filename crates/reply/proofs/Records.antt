@@ -16,7 +16,6 @@ use Rattle.packer.specs.Numbers.{numbers_at}
 use Rattle.tables.specs.Tables.{widths}
 use Rattle.tables.specs.Sorts.{table_of}
 use Rattle.tables.specs.declared.Sort.{Sort}
-use Rattle.tables.specs.declared.Sort.TheVariants as Sort
 use Rattle.telemetry.specs.Telemetry.{values_of, setup_values_of, stats_of, no_values, no_setup_values, no_stats}
 use Rattle.telemetry.specs.Records.{record_of, empty_record, RecordHolds}
 use Rattle.telemetry.proofs.Records.{telemetry-records}
@@ -35,7 +34,6 @@ use Rattle.reply.specs.Reply.{kind_number, reply_with, blank_of, empty_reply, wi
 use Rattle.reply.specs.Decode.{Decode, reply_in, reply_by, decode_of, decoded}
 use Rattle.reply.specs.Records.{record_in, received, masks, fields_at, RecordsOf}
 use Rattle.reply.specs.declared.Kind.{Kind}
-use Rattle.reply.specs.declared.Kind.TheVariants as Kind
 use Rattle.reply.specs.declared.CommandReply.{CommandReply}
 
 -- the claim of all three records, from the claim of each

@@ -12,7 +12,6 @@ use Rattle.reply.specs.Reply.{kind_number}
 use Rattle.reply.specs.Decode.{Decode, decoded}
 use Rattle.reply.specs.OneAnswer.{OneAnswer}
 use Rattle.reply.specs.declared.Kind.{Kind}
-use Rattle.reply.specs.declared.Kind.TheVariants as Kind
 
 decode-unique : ToldApart decoded
 decode-unique (Ok (count, reply)) (Ok (count2, reply2)) e =

@@ -5,11 +5,9 @@ use Rattle.format.specs.Format.{id_of, payload_at, all_values}
 use Rattle.format.specs.declared.CommandId.TheVariants as CommandId
 use Rattle.packer.specs.Numbers.{be_at}
 use Rattle.tables.specs.declared.Sort.{Sort}
-use Rattle.tables.specs.declared.Sort.TheVariants as Sort
 use Rattle.telemetry.specs.Records.{ByTable, values_by_table, setup_by_table, stats_by_table, RecordHolds}
 use Rattle.reply.specs.Reply.{kind_number}
 use Rattle.reply.specs.declared.Kind.{Kind}
-use Rattle.reply.specs.declared.Kind.TheVariants as Kind
 use Rattle.reply.specs.declared.CommandReply.{CommandReply}
 
 -- the record of each sort

@@ -3,7 +3,6 @@
 use Rattle.std.specs.Prelude.{cond, ℕ, List, eqb, get_or}
 use Rattle.format.specs.Format.{id_of, all_values}
 use Rattle.format.specs.declared.CommandId.{CommandId}
-use Rattle.format.specs.declared.CommandId.TheVariants as CommandId
 use Rattle.layout.specs.Layout.{raws}
 use Rattle.layout.specs.Replies.{get_values, selective, setup_selective, get_stats}
 use Rattle.firmware.specs.Firmware.{fw_version_of, fw_info_of, no_fw_version, no_fw_info}
@@ -14,7 +13,6 @@ use Rattle.telemetry.specs.declared.Values.{Values}
 use Rattle.telemetry.specs.declared.SetupValues.{SetupValues}
 use Rattle.telemetry.specs.declared.Stats.{Stats}
 use Rattle.reply.specs.declared.Kind.{Kind}
-use Rattle.reply.specs.declared.Kind.TheVariants as Kind
 use Rattle.reply.specs.declared.CommandReply.{CommandReply}
 
 -- a reply's number is its id

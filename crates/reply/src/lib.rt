@@ -7,6 +7,7 @@ ghost use Rattle.std.specs.Prelude.{◌≡◌};
 ghost use Rattle.tables.specs.Sorts.{table_of};
 ghost use Rattle.tables.specs.Rows.{padded};
 ghost use Rattle.layout.specs.Layout.{masked, raw_of};
+ghost use Rattle.frame.specs.Frame.{short, payload_in};
 ghost use Rattle.reply.specs.Reply.{kind_number, blank_of, empty_reply, get_values_of, get_values_selective_of, get_values_setup_selective_of, get_stats_of, fw_version_reply_of, fw_info_reply_of, reply_of};
 ghost use Rattle.reply.specs.Decode.{reply_in, decode_of, decoded};
 
@@ -154,17 +155,25 @@ pub fn unpack_from(payload: &[u8]) -> CommandReply
     }
 }
 
-// The reply of the good frame that `frame` starts with. Its payload part, as long as the length byte says, is cut out here and
-// goes to the field readers. Of other bytes, what there is of such a part.
-pub fn reply_in(frame: &[u8]) -> CommandReply
-    ensures { result ≡ reply_in frame.now }
+// The payload of the good frame that `frame` starts with, as long as the length byte says: the part of the slice that goes to the
+// field readers. Of other bytes, what there is of such a part.
+pub fn payload(frame: &[u8]) -> &[u8]
+    ensures { result.now ≡ payload_in short frame.now }
 {
     if frame.len() < format::PAYLOAD_AT {
-        return unpack_from(&[]);
+        return &[];
     }
     let part = &frame[format::PAYLOAD_AT..];
     let len = usize::from(frame[1]).min(part.len());
-    unpack_from(&part[..len])
+    &part[..len]
+}
+
+// The reply of the good frame that `frame` starts with.
+#[tactic(auto, unfolding(crate::specs::Decode::reply_in))]
+pub fn reply_in(frame: &[u8]) -> CommandReply
+    ensures { result ≡ reply_in frame.now }
+{
+    unpack_from(payload(frame))
 }
 
 // The reply that a good frame carries, or why there is none. Ports `decode` of src/command.rs: judged first, and the fields
