@@ -37,7 +37,6 @@ use Rattle.raw_telemetry.proofs.Rows.{row_laws}
 use Rattle.reply.specs.Reply.{kind_number, reply_with, reply_of, blank_of, get_values_of, get_values_selective_of, get_values_setup_selective_of, get_stats_of, fw_version_reply_of, fw_info_reply_of, empty_reply}
 use Rattle.reply.specs.Decode.{reply_in, reply_by, decode_of}
 use Rattle.reply.specs.declared.Kind.{Kind}
-use Rattle.reply.specs.declared.Kind.TheVariants as Kind
 use Rattle.raw_reply.specs.RawReply.{layout_for, blank_raw, empty_raw, raw_as, with_raw_values, with_raw_setup_values, with_raw_stats, cleared, reply_from}
 use Rattle.raw_reply.specs.Reading.{raw_in, raw_read_of}
 use Rattle.raw_reply.specs.declared.RawReply.{RawReply}

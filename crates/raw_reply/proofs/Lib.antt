@@ -1,4 +1,3 @@
-pub mod Answers
 pub mod OfKind
 pub mod Laws
 pub mod Unique

@@ -14,7 +14,6 @@ use Rattle.layout.specs.Replies.{Reply, reply, replies, layout_in, fields_end}
 use Rattle.judge.specs.Good.{ReadWhole}
 use Rattle.reply.specs.Reply.{kind_number}
 use Rattle.reply.specs.declared.Kind.{Kind}
-use Rattle.reply.specs.declared.Kind.TheVariants as Kind
 use Rattle.raw_reply.specs.RawReply.{layout_for, kinds, raw_as, raw_reply_of}
 
 -- a kind with its id and its layout, as one of the replies

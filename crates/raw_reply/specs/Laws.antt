@@ -10,7 +10,6 @@ use Rattle.firmware.specs.declared.RawFwVersion.{RawFwVersion}
 use Rattle.firmware.specs.declared.FwInfo.{FwInfo}
 use Rattle.reply.specs.Decode.{decode_of}
 use Rattle.reply.specs.declared.Kind.{Kind}
-use Rattle.reply.specs.declared.Kind.TheVariants as Kind
 use Rattle.raw_telemetry.specs.Rows.{RowsFit}
 use Rattle.raw_telemetry.specs.Records.{values_rows, setup_rows, stats_rows}
 use Rattle.raw_reply.specs.RawReply.{cleared, reply_from}

@@ -16,7 +16,6 @@ use Rattle.raw_telemetry.specs.declared.RawSetupValues.{RawSetupValues}
 use Rattle.raw_telemetry.specs.declared.RawStats.{RawStats}
 use Rattle.reply.specs.Reply.{kind_number, reply_with}
 use Rattle.reply.specs.declared.Kind.{Kind}
-use Rattle.reply.specs.declared.Kind.TheVariants as Kind
 use Rattle.reply.specs.declared.CommandReply.{CommandReply}
 use Rattle.raw_reply.specs.declared.RawReply.{RawReply}
 

@@ -1,27 +1,16 @@
 -- `raw_reply::read_reply` meets its contract.
-use mathlib.Core.Path.{ap, sym, ◌∙◌}
-use native.Mathlib.Omega.{arith}
-use Rattle.refusals.specs.Refusals.{consumed}
-use Rattle.judge.proofs.Sized.{judge-sized}
-use Rattle.raw_reply.proofs.Answers.{good, bad}
+use mathlib.Core.Path.{◌≡◌}
+use borrow.Author.Rules.{rules}
+use Rattle.std.specs.Prelude.{Err}
+use Rattle.raw_reply.specs.Reading.{raw_in, raw_read_of}
 use Rattle.raw_reply.proofs.read_reply.Goals as goal
 
-pub overflow_sub-count : goal.overflow_sub-count
-overflow_sub-count c = let sized = judge-sized _ _ (sym c.judge.ensures ∙ ap consumed c.in-To.is) in omega arith
+pub returns-in_err-count : goal.returns-in_err-count
+unfolding raw_read_of raw_in
+returns-in_err-count c =
+    let passed : c.from_residual.result ≡ Err c.in_err-count.field-0.0 = search rules in
+    rw (passed, ← c.in_err-count.ensures)
 
-pub slice_bounds-raw_from-count : goal.slice_bounds-raw_from-count
-slice_bounds-raw_from-count c = let sized = judge-sized _ _ (sym c.judge.ensures ∙ ap consumed c.in-To.is) in omega arith
-
-pub slice_bounds-raw_from-start : goal.slice_bounds-raw_from-start
-slice_bounds-raw_from-start c = let sized = judge-sized _ _ (sym c.judge.ensures ∙ ap consumed c.in-To.is) in omega arith
-
-pub slice_bounds-raw_from-end : goal.slice_bounds-raw_from-end
-slice_bounds-raw_from-end c = let sized = judge-sized _ _ (sym c.judge.ensures ∙ ap consumed c.in-To.is) in omega arith
-
-pub returns-in-To : goal.returns-in-To
-returns-in-To c =
-    good _ _ c.judge.ensures _ _ (ap consumed c.in-To.is) c.raw_from.ensures
-
-pub returns-in-Refused : goal.returns-in-Refused
-returns-in-Refused c =
-    bad _ _ c.judge.ensures _ _ (ap consumed c.in-Refused.is) c.blank.ensures
+pub returns : goal.returns
+unfolding raw_read_of raw_in
+returns c = simp (← c.in_ok-count.ensures, c.raw_from.ensures, c.payload.ensures)
