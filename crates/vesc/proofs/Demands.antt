@@ -5,7 +5,7 @@ use Prim.Native.Nat.{ℕ, ◌+◌, ◌-◌, ◌≤◌, ◌<◌}
 use native.Mathlib.Omega.{arith}
 use lib.ListN.{length, get_or, take, drop}
 use mathlib.Core.Logic.{◌↔◌, inl, inr}
-use Rattle.refusals.specs.Refusals.{Refusal, Answer, ok, refused, incomplete_data, invalid_frame, unknown_packet, checksum_mismatch, buffer_too_small, payload_too_long, decode_refusal, consumed}
+use Rattle.refusals.specs.Refusals.{Refusal, Answer, ok, refused, incomplete_data, invalid_frame, unknown_packet, checksum_mismatch, buffer_too_small, payload_too_long}
 use Rattle.refusals.proofs.Different.{none}
 use Rattle.checksum.specs.Xmodem.{checksum_of}
 use Rattle.checksum.proofs.Remainder.{register-is-remainder}
@@ -20,7 +20,9 @@ use Rattle.packer.proofs.Places.{got, lent-whole}
 use Rattle.encode.specs.Encode.{EncodeIs, encoded}
 use Rattle.encode.proofs.Exact.{refused-writes-nothing}
 use Rattle.command.specs.declared.Command.{Command}
-use Rattle.encode.specs.declared.Encoded.{Encoded}
+use Rattle.refusals.specs.declared.EncodeError.{EncodeError}
+use Rattle.refusals.specs.declared.DecodeError.{DecodeError}
+use Rattle.std.specs.Prelude.{Result}
 use Rattle.judge.specs.Judge.{judge_of}
 use Rattle.judge.proofs.Order as order
 use Rattle.format.specs.Format.{payload_at, frame_start}
@@ -37,9 +39,7 @@ use Rattle.layout.proofs.Replies.{no-reply, by-reply}
 use Rattle.layout.proofs.Refusals.{OneOrTwo, plain}
 use Rattle.judge.specs.Good.{id_byte}
 use Rattle.judge.proofs.Good.{good-frames}
-use Rattle.reply.specs.Decode.{Decode, reply_by, decode_of, decoded}
-use Rattle.reply.specs.declared.Decoded.{Decoded}
-use Rattle.reply.specs.Reply.{empty_reply}
+use Rattle.reply.specs.Decode.{Decode, decode_of, decoded}
 use Rattle.stream.specs.Reading.{read_all, replies_of, joined}
 use Rattle.stream.specs.Lateness.{InTime}
 use Rattle.stream.proofs.Rule.{reading-by-rule}
@@ -81,13 +81,13 @@ module _ (n room : ℕ) (a : Answer ℕ) (is : a ≡ wrap_answer n room) where
   answer-room : (a ≡ ok (n + 5)) ↔ ((n ≤ 255) × (n + 5 ≤ room))
   answer-room = (λ e. by_order 255 n (λ h. one_answer (sym (answer-too-long n room h) ∙ sym is ∙ e)) (λ h. by_order room (n + 5) (λ k. one_answer (sym (answer-too-small n room h k) ∙ sym is ∙ e)) (λ k. (h, k))), λ h. is ∙ answer-fits n room h.0 h.1)
 
-encode-refuses : (command : Command) (hops buffer : List ℕ) (r : Encoded) (after : List ℕ) → EncodeIs command hops buffer r after → EncodeRefuses command hops buffer r after
+encode-refuses : (command : Command) (hops buffer : List ℕ) (r : Result ℕ EncodeError) (after : List ℕ) → EncodeIs command hops buffer r after → EncodeRefuses command hops buffer r after
 encode-refuses command hops buffer r after w =
     record {
       too_long = answer-long _ _ (encoded r) w.answer;
       too_small = answer-small _ _ (encoded r) w.answer;
       fits = answer-room _ _ (encoded r) w.answer;
-      unchanged = λ e same. refused-writes-nothing command hops buffer after e (subst (λ (a : Encoded). EncodeIs command hops buffer a after) same w);
+      unchanged = λ e same. refused-writes-nothing command hops buffer after e (subst (λ (a : Result ℕ EncodeError). EncodeIs command hops buffer a after) same w);
     }
 
 module _ (s : List ℕ) where
@@ -125,10 +125,6 @@ module _ (s : List ℕ) where
         let ended : judge_sum_of s n (be_at s (n + 2) 2) ≡ judge_of s = ending.end-right s n _ (sum-there (omega arith)) (omega arith) end ∙ finished f in
         let sum : summed s ≡ checksum_of (take (n + 2 - 2) (drop 2 s)) = rw all (ap checksum_of (payload-is s)) in
         sym (ap (judge_sum_of s n) (carried-is s) ∙ ended) ∙ sym (ending.sum-wrong s n (carried short s) (summed s) sum differs)
-
-  empty-by : (why : Refusal) → judge_of s ≡ refused why → reply_by (judge_of s) s ≡ empty_reply
-  unfolding reply_by
-  empty-by why e = rw e
 
   fields-by : (layout : Layout) → layout_in replies (id_byte s) ≡ ok layout → fields_read s ≡ extent layout (drop 2 s) 1
   unfolding fields_end
@@ -182,14 +178,13 @@ module _ (s : List ℕ) where
   answer (sum-wrong f there end differs) = sum-is-wrong f (omega (arith, declared-is s)) (sym (end_is s) ∙ end) differs
   answer (good frame) = (good-frames.judged s _).1 (frame, refl)
 
-decode-refuses : (s : List ℕ) (d : Decoded) → decoded d ≡ decode_of s → DecodeRefuses s d
+decode-refuses : (s : List ℕ) (d : Result (ℕ × CommandReply) DecodeError) → decoded d ≡ decode_of s → DecodeRefuses s d
 unfolding decode_of
 decode-refuses s d is =
-    let judgement : consumed d.answer ≡ judge_of s = ap (λ (o : Decode). o.answer) is in
     record {
       goes = goes s;
-      answer = λ way. judgement ∙ answer s way;
-      empty = λ e refuses. ap (λ (o : Decode). o.reply) is ∙ empty-by s (decode_refusal e) (sym judgement ∙ ap consumed refuses);
+      answer = λ way. ap (λ (o : Decode). o.answer) is ∙ answer s way;
+      empty = λ e refuses. ap (λ (r : Result (ℕ × CommandReply) DecodeError). (decoded r).reply) refuses;
     }
 
 pub demand-one : DemandOne

@@ -2,10 +2,10 @@
 -- whose fields are the claims. They are claims about whatever meets the contracts of the public functions, and about
 -- the definitions that these contracts cite. proofs/Demands.antt and proofs/Readings.antt prove each record.
 -- docs/FORMAT.md has document 01's rules in our words, and the glossary; README.md has the notation.
-use Rattle.std.specs.Prelude.{◌≡◌, Bool, true, ◌↔◌, List, [], ◌∷◌, ◌++◌, ℕ, ◌+◌, ◌-◌, ◌^◌, ◌≤◌, ◌<◌, ℤ, length, drop}
+use Rattle.std.specs.Prelude.{◌≡◌, Bool, true, ◌↔◌, List, [], ◌∷◌, ◌++◌, ℕ, ◌+◌, ◌-◌, ◌^◌, ◌≤◌, ◌<◌, ℤ, Result, Ok, Err, length, drop}
 use Rattle.std.specs.Float.{binary32}
 use Rattle.std.specs.Float.Ieee.{of_int}
-use Rattle.refusals.specs.Refusals.{Answer, ok, refused, consumed, incomplete_data, invalid_frame, unknown_packet, checksum_mismatch}
+use Rattle.refusals.specs.Refusals.{Answer, ok, refused, incomplete_data, invalid_frame, unknown_packet, checksum_mismatch}
 use Rattle.refusals.specs.Refusals.{buffer_too_small, payload_too_long}
 use Rattle.refusals.specs.declared.EncodeError.{EncodeError}
 use Rattle.refusals.specs.declared.DecodeError.{DecodeError}
@@ -18,18 +18,14 @@ use Rattle.packer.specs.Nearness.{Bytes}
 use Rattle.encode.specs.Payload.{payload_of}
 use Rattle.encode.specs.Encode.{EncodeIs, encoded}
 use Rattle.command.specs.declared.Command.{Command}
-use Rattle.encode.specs.declared.Encoded.{Encoded}
-use Rattle.encode.specs.declared.Encoded.TheVariants.{Refused}
 use Rattle.format.specs.Format.{frame_start, frame_end, payload_at, frame_extra, payload_max}
 use Rattle.frame.specs.Frame.{short, frame_size, start_byte, declared, payload_in, carried, end_byte}
 use Rattle.layout.specs.Replies.{replies, NoneOf, fields_end}
 use Rattle.judge.specs.Good.{id_byte, GoodFrame}
-use Rattle.refusals.specs.declared.Consumed.TheVariants as Consumed
 use Rattle.reply.specs.Decode.{decode_of, decoded}
 use Rattle.reply.specs.Nearness.{RecordsNear}
 use Rattle.reply.specs.Records.{RecordsOf}
 use Rattle.tables.specs.Bits.{AskedBits}
-use Rattle.reply.specs.declared.Decoded.{Decoded}
 use Rattle.reply.specs.Reply.{empty_reply}
 use Rattle.reply.specs.declared.CommandReply.{CommandReply}
 use Rattle.stream.specs.Reading.{Reading, read_all, Reads, replies_of, joined}
@@ -41,7 +37,7 @@ use Rattle.decoder.specs.declared.GatewayFed.{GatewayFed}
 use Rattle.decoder.specs.declared.Figures.{Figures}
 use Rattle.decoder.specs.declared.Next.{Next}
 use Rattle.decoder.specs.Judge.{decode_judge}
-use Rattle.decoder.specs.State.{buffer_of, held_of, figures_of, FeedIs, taken_answer, GatewayFeedIs, NextIs}
+use Rattle.decoder.specs.State.{buffer_of, held_of, figures_of, FeedIs, taken_answer, GatewayFeedIs, reply_given, NextIs}
 use Rattle.decoder.specs.Runs.{Run, PlainRun, Ends, InUse, Reached, figures_by}
 use Rattle.decoder.specs.Runs.{gateway_calls, GatewayRun, PlainGatewayRun, InTurn, GatewayEnds, GatewayReached}
 
@@ -52,7 +48,7 @@ use Rattle.decoder.specs.Runs.{gateway_calls, GatewayRun, PlainGatewayRun, InTur
 -- `encode` and `decode`; the contracts of `judge`, of the readers and of the writers say directly when they refuse.
 
 -- `encode` of a command behind hops returned r, and `after` is what the buffer then holds
-pub record EncodeRefuses (command : Command) (hops buffer : List ℕ) (r : Encoded) (after : List ℕ) : Type 0 where
+pub record EncodeRefuses (command : Command) (hops buffer : List ℕ) (r : Result ℕ EncodeError) (after : List ℕ) : Type 0 where
   pub too_long : (encoded r ≡ refused payload_too_long) ↔ (payload_max < length (payload_of command hops))
   pub too_small
       : (encoded r ≡ refused buffer_too_small)
@@ -60,7 +56,7 @@ pub record EncodeRefuses (command : Command) (hops buffer : List ℕ) (r : Encod
   pub fits
       : (encoded r ≡ ok (length (payload_of command hops) + frame_extra))
       ↔ ((length (payload_of command hops) ≤ payload_max) × (length (payload_of command hops) + frame_extra ≤ length buffer))
-  pub unchanged : (e : EncodeError) → r ≡ Refused e → after ≡ buffer
+  pub unchanged : (e : EncodeError) → r ≡ Err e → after ≡ buffer
 
 -- where the fields that follow the id end: they are read in all that follows it, by the reply's layout (layout/specs/Replies.antt)
 abbrev pub fields_read : List ℕ → Answer ℕ
@@ -111,19 +107,19 @@ answer_of (end-wrong f there differs) = refused invalid_frame
 answer_of {s} (sum-wrong f there end differs) = refused (checksum_mismatch (carried short s) (summed s))
 answer_of {s} (good frame) = ok (frame_size short (declared short s))
 
--- `decode` of a slice s returned d. The slice goes one of the ways, and d's answer is the one of each way that it goes:
+-- `decode` of a slice s returned d, whose answer and reply `decoded d` has. The slice goes one of the ways, and d's answer is the one of each way that it goes:
 -- so each refusal comes exactly when document 01 says.
-pub record DecodeRefuses (s : List ℕ) (d : Decoded) : Type 0 where
+pub record DecodeRefuses (s : List ℕ) (d : Result (ℕ × CommandReply) DecodeError) : Type 0 where
   pub goes : Way s
-  pub answer : (way : Way s) → consumed d.answer ≡ answer_of way
+  pub answer : (way : Way s) → (decoded d).answer ≡ answer_of way
   -- "all of them on a refusal": the reply is then the empty one
-  pub empty : (e : DecodeError) → d.answer ≡ Consumed.Refused e → d.reply ≡ empty_reply
+  pub empty : (e : DecodeError) → d ≡ Err e → (decoded d).reply ≡ empty_reply
 
 pub record DemandOne : Type 0 where
   pub encode
-      : (command : Command) (hops buffer : List ℕ) (r : Encoded) (after : List ℕ) → EncodeIs command hops buffer r after
+      : (command : Command) (hops buffer : List ℕ) (r : Result ℕ EncodeError) (after : List ℕ) → EncodeIs command hops buffer r after
       → EncodeRefuses command hops buffer r after
-  pub decode : (s : List ℕ) (d : Decoded) → decoded d ≡ decode_of s → DecodeRefuses s d
+  pub decode : (s : List ℕ) (d : Result (ℕ × CommandReply) DecodeError) → decoded d ≡ decode_of s → DecodeRefuses s d
 
 -- "2. Within document 01's domain, bytes, readings and refusals equal the Rust's. Checksum, float rounding and name
 -- text are proved against CRC-16/XMODEM, IEEE 754 and Unicode."
@@ -140,9 +136,9 @@ pub record DemandTwo : Type 0 where
   pub nearest : (raw : ℤ) → size raw ≤ 2 ^ 31 → NearestEven raw (of_int binary32 raw)
   -- "for raw r and scale s the reading is within |r|/s divided by 2^22 of r/s"
   pub rounding : (raw : ℤ) (scale : ℕ) → size raw ≤ 2 ^ 31 → 0 < scale → scale ≤ 2 ^ 24 → ReadingNear raw scale
-  -- The same of a record: if `decode` returned d for a good frame, each scaled field of its record is that near to the
+  -- The same of a record: if `decode` returned a reply for a good frame, each scaled field of its record is that near to the
   -- number that the frame's bytes hold at the field's place, over the scale
-  pub readings : (s : List ℕ) → Bytes s → (d : Decoded) → decoded d ≡ decode_of s → (count : ℕ) → d.answer ≡ Consumed.To count → RecordsNear s d.reply
+  pub readings : (s : List ℕ) → Bytes s → (count : ℕ) (reply : CommandReply) → decoded (Ok (count, reply)) ≡ decode_of s → RecordsNear s reply
   -- Unicode's table 3-7
   pub text : (bytes : List ℕ) → (well_formed bytes ≡ true) ↔ WellFormed bytes
   -- `has_text` and `text` of a name returned `has` and `part`: the name has a text exactly if it has a first NUL and the
@@ -277,9 +273,9 @@ pub record LineFigures : Type 0 where
 -- A record that the reply's kind does not carry has mask 0.
 pub record ReadingsThere : Type 0 where
   -- `decode` of a slice s returned d: a reply, or a refusal with the empty reply
-  pub decode : (s : List ℕ) (d : Decoded) → decoded d ≡ decode_of s → RecordsOf s d.reply
+  pub decode : (s : List ℕ) (d : Result (ℕ × CommandReply) DecodeError) → decoded d ≡ decode_of s → RecordsOf s (decoded d).reply
   -- `next` of a decoder d returned r: a reply in the unread bytes, from some place on, or the empty one
-  pub next : (d : Decoder) (r : Next) → NextIs d r → (place : ℕ) × RecordsOf (drop place (buffer_of d).unread) r.reply
+  pub next : (d : Decoder) (r : Next) → NextIs d r → (place : ℕ) × RecordsOf (drop place (buffer_of d).unread) (reply_given r.given)
   -- A record's `has` returns true exactly if its mask has the bits that it is asked for (`HasBits`): the field's own bit if that
   -- is asked for alone, each of them if several are joined
   pub asked : AskedBits

@@ -3,7 +3,7 @@
 // crates.txt. specs/Frames.antt has document 01's proved frames as one table, specs/Demands.antt the three demands.
 #![tactic(auto)]
 
-pub use codes::{FaultCode, HwType, QmlHw, fault_number, hw_type_number, qml_hw_number};
+pub use codes::{FaultCode, HwType, QmlHw};
 pub use command::{Command, StatsMask, ValuesMask, ValuesSetupMask, raw_of};
 pub use command_reader::{CommandRead, hop_part, read_command, write_command};
 pub use decoder::{Decoder, Fed, Figures, GatewayFed, Next};
@@ -13,6 +13,6 @@ pub use format::CommandId;
 pub use judge::judge;
 pub use raw_command::RawCommand;
 pub use refusals::{DecodeError, EncodeError, FeedError, WriteBackError};
-pub use reply::{CommandReply, Decoded, Kind, decode};
+pub use reply::{CommandReply, Kind, decode};
 pub use telemetry::{SetupValues, Stats, Values};
 pub use text::{has_text, text};
