@@ -8,35 +8,42 @@ mod commands;
 mod frames;
 mod handed;
 mod masks;
-mod says;
 mod worked;
 
-fn check_value(rt: &(impl Print + Eprint)) {
-    says::text(rt, "checksum of 123456789: ");
-    says::hex(rt, checksum::checksum(b"123456789") as u64, 4);
-    says::text(rt, "\n");
+use std::io;
+
+fn check_value(rt: &impl Print) -> io::Result<()> {
+    println!(rt;
+        "checksum of 123456789: {:04x}",
+        checksum::checksum(b"123456789")
+    )
 }
 
 // The bits of a whole number's reading over 1: 4b800000 is 16777216, 4b800002 is 16777220.
-fn reading(rt: &(impl Print + Eprint), raw: i32) {
-    says::text(rt, "read over 1: ");
+fn reading(rt: &impl Print, raw: i32) -> io::Result<()> {
     let value = floats::scaled(raw, 1.0);
-    says::hex(rt, floats::f32_to_bits(value) as u64, 8);
-    says::text(rt, "\n");
+    println!(rt; "read over 1: {:08x}", floats::f32_to_bits(value))
 }
 
+fn run(rt: &impl Print) -> io::Result<()> {
+    check_value(rt)?;
+    reading(rt, 16777217)?;
+    reading(rt, 16777219)?;
+    frames::fw_version(rt)?;
+    frames::hops_before_alive(rt)?;
+    frames::hops_before_set_rpm(rt)?;
+    frames::million_hops(rt)?;
+    frames::name_in_fw_version(rt)?;
+    frames::name_in_fw_info(rt)?;
+    worked::stream(rt)?;
+    handed::states(rt)?;
+    masks::records(rt)?;
+    commands::payloads(rt)
+}
+
+// A write that fails is said on standard error.
 fn main(rt: HostRuntime) {
-    check_value(&rt);
-    reading(&rt, 16777217);
-    reading(&rt, 16777219);
-    frames::fw_version(&rt);
-    frames::hops_before_alive(&rt);
-    frames::hops_before_set_rpm(&rt);
-    frames::million_hops(&rt);
-    frames::name_in_fw_version(&rt);
-    frames::name_in_fw_info(&rt);
-    worked::stream(&rt);
-    handed::states(&rt);
-    masks::records(&rt);
-    commands::payloads(&rt);
+    if let Err(error) = run(&rt) {
+        let _ = eprintln!(rt; "vectors: standard output: {error}");
+    }
 }

@@ -1,36 +1,29 @@
 // Document 01's worked stream: 2 0 4 2 1 129 129 169 3, then zeros. A false start waits for 73 bytes of
 // GetValues; the reply behind it comes at the 76th byte.
-use crate::says;
 use decoder::Decoder;
+use std::io;
 
-// Feeds a zero at a time: how many bytes were fed when a reply came, 0 where none does.
-fn reply_at(start: Decoder) -> usize {
-    let mut decoder = start;
-    let mut fed: usize = 9;
-    while fed < 200 {
-        let taken = decoder.feed(b"\0");
-        let before = taken.decoder;
-        let answer = before.next();
-        let after = answer.decoder;
-        decoder = after;
-        fed += 1;
-        if answer.given {
-            return fed;
+// Feeds a zero at a time behind the 9 bytes: how many bytes were fed when a reply came.
+fn reply_at(mut decoder: Decoder) -> Option<u8> {
+    for fed in 10..=200 {
+        let next = decoder.feed(b"\0").decoder.next();
+        decoder = next.decoder;
+        if next.given.is_some() {
+            return Some(fed);
         }
     }
-    0
+    None
 }
 
-pub(crate) fn stream(rt: &(impl Print + Eprint)) {
-    let taken = Decoder::new().feed(&[2, 0, 4, 2, 1, 129, 129, 169, 3]);
-    let before = taken.decoder;
-    let answer = before.next();
-    let after = answer.decoder;
-    if !answer.given {
-        says::text(rt, "nothing given, ");
+pub(crate) fn stream(rt: &impl Print) -> io::Result<()> {
+    let fed = Decoder::new().feed(&[2, 0, 4, 2, 1, 129, 129, 169, 3]);
+    let next = fed.decoder.next();
+    if next.given.is_none() {
+        print!(rt; "nothing given, ")?;
     }
-    says::decimal(rt, after.held());
-    says::text(rt, " held; the reply comes at byte ");
-    says::decimal(rt, reply_at(after) as u64);
-    says::text(rt, "\n");
+    print!(rt; "{} held; ", next.decoder.held())?;
+    match reply_at(next.decoder) {
+        Some(byte) => println!(rt; "the reply comes at byte {byte}"),
+        None => println!(rt; "no reply comes"),
+    }
 }

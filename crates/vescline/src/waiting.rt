@@ -1,23 +1,19 @@
 // Reads and writes that would block (EAGAIN) or that a signal interrupted (EINTR): neither is an end or a
 // failure, and the call is made again.
-use std::io::{Error, ErrorKind};
+use std::io::{Error, ErrorKind, Result};
 use std::rt::Clock;
 use std::thread;
 use std::time::Duration;
 
-// Sleeps for about ten milliseconds.
-fn pause(rt: &impl Clock) {
-    thread::sleep(rt, Duration::from_millis(10));
-}
-
-// Whether the call that failed just now is to be made again. It waits first where the call would block.
-pub(crate) fn again(rt: &impl Clock, error: Error) -> bool {
+// Returns where the call that failed just now is to be made again, and hands back the error of one that is not.
+// Where the call would block, some ten milliseconds pass first.
+pub(crate) fn wait(rt: &impl Clock, error: Error) -> Result<()> {
     match error.kind() {
         ErrorKind::WouldBlock => {
-            pause(rt);
-            true
+            thread::sleep(rt, Duration::from_millis(10));
+            Ok(())
         }
-        ErrorKind::Interrupted => true,
-        _ => false,
+        ErrorKind::Interrupted => Ok(()),
+        _ => Err(error),
     }
 }
