@@ -1,20 +1,20 @@
 // The case of the masks: every constant of the three, in the order of the bits. And a record's mask asked for bits: the sort
 // of record (a byte), the mask and the bits (four bytes each).
-use crate::shows;
-use crate::shows::Line;
+use crate::answers::Answers;
+use crate::cases;
 use command::{StatsMask, ValuesMask, ValuesSetupMask};
+use std::io;
+use std::io::Write;
+use telemetry::{SetupValues, Stats, Values};
 
-fn words(text: &mut [u8], line: Line, words: &[u32]) -> Line {
-    let mut now = line;
-    let mut at = 0;
-    while at < words.len() {
-        now = shows::word(text, now, words[at]);
-        at += 1;
+fn words(answers: &mut Answers, words: &[u32]) -> io::Result<()> {
+    for &word in words {
+        answers.word(word)?;
     }
-    now
+    Ok(())
 }
 
-pub(crate) fn case(text: &mut [u8], line: Line) -> Line {
+pub(crate) fn case(answers: &mut Answers) -> io::Result<()> {
     let values = [
         ValuesMask::TEMP_MOSFET,
         ValuesMask::TEMP_MOTOR,
@@ -76,49 +76,33 @@ pub(crate) fn case(text: &mut [u8], line: Line) -> Line {
         StatsMask::TEMP_MOTOR_MAX as u32,
         StatsMask::COUNT_TIME as u32,
     ];
-    let mut now = words(text, line, &values);
-    now = words(text, now, &setup_values);
-    words(text, now, &stats)
+    words(answers, &values)?;
+    words(answers, &setup_values)?;
+    words(answers, &stats)
 }
 
-fn word_at(case: &[u8], pos: usize) -> u32 {
-    match packer::unpack_u32(case, pos) {
-        Ok((word, _)) => word,
-        Err(_) => 0,
-    }
-}
-
-fn values_have(mask: u32, bits: u32) -> bool {
-    let mut values = telemetry::no_values();
-    values.mask = mask;
-    values.has(bits)
-}
-
-fn setup_values_have(mask: u32, bits: u32) -> bool {
-    let mut values = telemetry::no_setup_values();
-    values.mask = mask;
-    values.has(bits)
-}
-
-fn stats_have(mask: u32, bits: u32) -> bool {
-    let mut stats = telemetry::no_stats();
-    stats.mask = mask;
-    stats.has((bits % 65536) as u16)
-}
-
-pub(crate) fn asked(text: &mut [u8], line: Line, case: &[u8]) -> Line {
+pub(crate) fn asked(answers: &mut Answers, case: &[u8]) -> io::Result<()> {
     if case.len() < 9 {
-        return shows::cut_short(text, line);
+        return answers.cut_short();
     }
-    let mask = word_at(case, 1);
-    let bits = word_at(case, 5);
+    let mask = cases::word_at(case, 1);
+    let bits = cases::word_at(case, 5);
     let has = match case[0] {
-        0 => values_have(mask, bits),
-        1 => setup_values_have(mask, bits),
-        _ => stats_have(mask, bits),
+        0 => Values {
+            mask,
+            ..telemetry::no_values()
+        }
+        .has(bits),
+        1 => SetupValues {
+            mask,
+            ..telemetry::no_setup_values()
+        }
+        .has(bits),
+        _ => Stats {
+            mask,
+            ..telemetry::no_stats()
+        }
+        .has((bits % 65536) as u16),
     };
-    if has {
-        return shows::say(text, line, b" yes");
-    }
-    shows::say(text, line, b" no")
+    write!(answers.out, "{}", if has { " yes" } else { " no" })
 }

@@ -1,10 +1,11 @@
 // The cases of `read_command` and `write_command`. Those that read: a slice; what was read is written back. Those that
 // write: the command's place in the list of `encode`'s cases, its number's bits, the buffer's length, and the hop part.
 // A number is the whole number that is sent.
+use crate::answers::Answers;
 use crate::commands::Number;
-use crate::shows::Line;
-use crate::{commands, replies, shows};
+use crate::{cases, replies};
 use raw_command::RawCommand;
+use std::io;
 
 fn raw(place: u8, n: Number) -> RawCommand {
     match place {
@@ -48,7 +49,7 @@ fn of_command(command: RawCommand) -> [u32; 2] {
         RawCommand::SetCurrentRel(current_rel) => [12, packer::as_u32(current_rel)],
         RawCommand::SetOdometer(odometer) => [13, odometer],
         RawCommand::GetStats(mask) => [14, mask as u32],
-        RawCommand::ResetStats(ack) => [15, replies::flag(ack)],
+        RawCommand::ResetStats(ack) => [15, u32::from(ack)],
         RawCommand::Shutdown(force, restart) => [16, flags(force, restart)],
         RawCommand::FwInfo => [17, 0],
         RawCommand::MotorEstop(time) => [18, time as u32],
@@ -57,72 +58,50 @@ fn of_command(command: RawCommand) -> [u32; 2] {
 
 // Two flags as the lowest bits of a number, the first the lowest.
 fn flags(first: bool, second: bool) -> u32 {
-    if second {
-        if first { 3 } else { 2 }
-    } else {
-        replies::flag(first)
-    }
-}
-
-fn count(text: &mut [u8], line: Line, answer: Result<usize, WriteBackError>) -> Line {
-    match answer {
-        Ok(count) => shows::given(text, line, count),
-        Err(e) => shows::refused(text, line, e.number()),
-    }
+    u32::from(first) + 2 * u32::from(second)
 }
 
 // Writes into a buffer of so many bytes of A5, all of which go into the digest.
-fn written(text: &mut [u8], line: Line, hops: &[u8], command: RawCommand, room: usize) -> Line {
-    let mut space = shows::untouched();
-    if 1024 < room {
-        return shows::too_much_room(text, line);
+fn written(answers: &mut Answers, hops: &[u8], command: RawCommand, room: usize) -> io::Result<()> {
+    let mut space = cases::UNTOUCHED;
+    let Some(buf) = space.get_mut(..room) else {
+        return answers.too_much_room();
+    };
+    match command_reader::write_command(hops, command, buf) {
+        Ok(count) => answers.given(count)?,
+        Err(e) => answers.refused(e.number())?,
     }
-    let buf = &mut space[..room];
-    let answer = command_reader::write_command(hops, command, buf);
-    let told = count(text, line, answer);
-    shows::mix_bytes(text, told, buf)
+    answers.mix_bytes(buf)
 }
 
-pub(crate) fn write(text: &mut [u8], line: Line, case: &[u8]) -> Line {
+pub(crate) fn write(answers: &mut Answers, case: &[u8]) -> io::Result<()> {
     if case.len() < 7 {
-        return shows::cut_short(text, line);
+        return answers.cut_short();
     }
-    let room = commands::length_at(case, 5);
-    let command = raw(case[0], commands::number_of(case));
-    let now = written(text, line, &case[7..], command, room);
-    shows::digest(text, now)
+    let command = raw(case[0], Number::from(cases::word_at(case, 1)));
+    written(answers, &case[7..], command, cases::half_at(case, 5))?;
+    answers.digest()
 }
 
 // `len` is what `read_command` says of the hop part's length; `hops` is the part that `hop_part` gives. The length is
 // below 256: the remainder is for the prover.
-fn mix_read(text: &mut [u8], line: Line, command: RawCommand, len: usize, hops: &[u8]) -> Line {
-    let words = of_command(command);
-    let mut now = shows::mix_words(text, line, &words);
-    now = shows::mix(text, now, (len % 4294967296) as u32);
-    shows::mix_bytes(text, now, hops)
+fn mix_read(answers: &mut Answers, command: RawCommand, len: usize, hops: &[u8]) -> io::Result<()> {
+    answers.mix_words(&of_command(command))?;
+    answers.mix((len % 4294967296) as u32)?;
+    answers.mix_bytes(hops)
 }
 
-// A frame that was given is written back, with room for a byte more. None has more than 260 bytes: the test is for the
-// prover.
-fn back(text: &mut [u8], line: Line, hops: &[u8], command: RawCommand, answer: Result<usize, DecodeError>) -> Line {
-    match answer {
-        Ok(count) => {
-            if 1023 < count {
-                return shows::too_much_room(text, line);
-            }
-            written(text, line, hops, command, count + 1)
-        }
-        Err(_) => line,
-    }
-}
-
-pub(crate) fn read(text: &mut [u8], line: Line, slice: &[u8]) -> Line {
+// What was read is written back, with room for a byte more. A refusal goes into the digest as FwVersion behind no hops.
+pub(crate) fn read(answers: &mut Answers, slice: &[u8]) -> io::Result<()> {
     let read = command_reader::read_command(slice);
     let hops = command_reader::hop_part(slice);
-    let answer = read.answer;
-    let command = read.command;
-    let told = replies::count(text, line, answer);
-    let mixed = mix_read(text, told, command, read.hops, hops);
-    let now = back(text, mixed, hops, command, answer);
-    shows::digest(text, now)
+    replies::count(answers, read.map(|read| read.count))?;
+    match read {
+        Ok(read) => {
+            mix_read(answers, read.command, read.hops, hops)?;
+            written(answers, hops, read.command, read.count.saturating_add(1))?;
+        }
+        Err(_) => mix_read(answers, RawCommand::FwVersion, 0, hops)?,
+    }
+    answers.digest()
 }

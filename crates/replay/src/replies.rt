@@ -1,10 +1,11 @@
 // The cases of `decode`: a slice. A reply is its kind and every field of all five records as a word of 32
 // bits, in the order of the structs.
-use crate::shows;
-use crate::shows::Line;
+use crate::answers::Answers;
 use firmware::{FwInfo, FwVersion};
 use refusals::DecodeError;
 use reply::CommandReply;
+use std::io;
+use std::io::Write;
 use telemetry::{SetupValues, Stats, Values};
 
 // A float by its bits; every NaN has the same.
@@ -12,16 +13,7 @@ fn bits(value: f32) -> u32 {
     floats::f32_to_bits(value)
 }
 
-pub(crate) fn flag(value: bool) -> u32 {
-    if value { 1 } else { 0 }
-}
-
-fn byte(value: u8) -> u32 {
-    value as u32
-}
-
 fn of_values(v: Values) -> [u32; 25] {
-    let fault = v.fault_code;
     [
         v.mask,
         bits(v.temp_mosfet),
@@ -39,20 +31,19 @@ fn of_values(v: Values) -> [u32; 25] {
         bits(v.watt_hours_charged),
         packer::as_u32(v.tachometer),
         packer::as_u32(v.tachometer_abs),
-        byte(codes::fault_number(fault)),
+        u32::from(u8::from(v.fault_code)),
         bits(v.pid_pos),
-        byte(v.controller_id),
+        u32::from(v.controller_id),
         bits(v.temp_mosfet1),
         bits(v.temp_mosfet2),
         bits(v.temp_mosfet3),
         bits(v.avg_voltage_d),
         bits(v.avg_voltage_q),
-        byte(v.status),
+        u32::from(v.status),
     ]
 }
 
 fn of_setup_values(v: SetupValues) -> [u32; 23] {
-    let fault = v.fault_code;
     [
         v.mask,
         bits(v.temp_mosfet),
@@ -71,9 +62,9 @@ fn of_setup_values(v: SetupValues) -> [u32; 23] {
         bits(v.distance),
         bits(v.distance_abs),
         bits(v.pid_pos),
-        byte(codes::fault_number(fault)),
-        byte(v.controller_id),
-        byte(v.num_vescs),
+        u32::from(u8::from(v.fault_code)),
+        u32::from(v.controller_id),
+        u32::from(v.num_vescs),
         bits(v.watt_hours_battery_left),
         v.odometer,
         v.uptime_ms,
@@ -97,103 +88,64 @@ fn of_stats(s: Stats) -> [u32; 12] {
     ]
 }
 
-fn mix_words_and_name(text: &mut [u8], line: Line, words: &[u32], name: [u8; 39]) -> Line {
-    let now = shows::mix_words(text, line, words);
-    shows::mix_bytes(text, now, &name)
+fn mix_fw_version(answers: &mut Answers, v: FwVersion) -> io::Result<()> {
+    answers.mix_bytes(&[v.major, v.minor])?;
+    answers.mix_bytes(&v.hw_name)?;
+    answers.mix_bytes(&v.uuid)?;
+    answers.mix_bytes(&[
+        u8::from(v.pairing_done),
+        v.test_version_number,
+        u8::from(v.hw_type),
+        v.custom_config_num,
+        u8::from(v.has_phase_filters),
+        u8::from(v.qml_hw),
+        v.qml_app,
+        v.nrf_flags,
+    ])?;
+    answers.mix_bytes(&v.fw_name)?;
+    answers.mix(v.hw_crc)
 }
 
-fn mix_name47(text: &mut [u8], line: Line, name: [u8; 47]) -> Line {
-    shows::mix_bytes(text, line, &name)
-}
-
-fn mix_uuid(text: &mut [u8], line: Line, uuid: [u8; 12]) -> Line {
-    shows::mix_bytes(text, line, &uuid)
-}
-
-fn mix_fw_version(text: &mut [u8], line: Line, v: FwVersion) -> Line {
-    let hw_name = v.hw_name;
-    let uuid = v.uuid;
-    let fw_name = v.fw_name;
-    let hw = v.hw_type;
-    let qml = v.qml_hw;
-    let front = [byte(v.major), byte(v.minor)];
-    let middle = [
-        flag(v.pairing_done),
-        byte(v.test_version_number),
-        byte(codes::hw_type_number(hw)),
-        byte(v.custom_config_num),
-        flag(v.has_phase_filters),
-        byte(codes::qml_hw_number(qml)),
-        byte(v.qml_app),
-        byte(v.nrf_flags),
-    ];
-    let begun = mix_words_and_name(text, line, &front, hw_name);
-    let known = mix_uuid(text, begun, uuid);
-    let named = mix_words_and_name(text, known, &middle, fw_name);
-    shows::mix(text, named, v.hw_crc)
-}
-
-fn mix_fw_info(text: &mut [u8], line: Line, v: FwInfo) -> Line {
-    let commit_hash = v.commit_hash;
-    let user_commit_hash = v.user_commit_hash;
-    let front = [byte(v.major), byte(v.minor), byte(v.test_version_number)];
-    let mut now = shows::mix_words(text, line, &front);
-    now = mix_name47(text, now, commit_hash);
-    mix_name47(text, now, user_commit_hash)
-}
-
-fn mix_telemetry(
-    text: &mut [u8],
-    line: Line,
-    values: Values,
-    setup_values: SetupValues,
-    stats: Stats,
-) -> Line {
-    let first = of_values(values);
-    let second = of_setup_values(setup_values);
-    let third = of_stats(stats);
-    let mut now = shows::mix_words(text, line, &first);
-    now = shows::mix_words(text, now, &second);
-    shows::mix_words(text, now, &third)
+fn mix_fw_info(answers: &mut Answers, v: FwInfo) -> io::Result<()> {
+    answers.mix_bytes(&[v.major, v.minor, v.test_version_number])?;
+    answers.mix_bytes(&v.commit_hash)?;
+    answers.mix_bytes(&v.user_commit_hash)
 }
 
 // Takes a whole reply into the digest: the records of other kinds too, so that one that is not empty shows.
-pub(crate) fn mix(text: &mut [u8], line: Line, reply: CommandReply) -> Line {
-    let kind = reply.kind;
-    let fw_version = reply.fw_version;
-    let fw_info = reply.fw_info;
-    let mut now = shows::mix(text, line, byte(kind.number()));
-    now = mix_telemetry(text, now, reply.values, reply.setup_values, reply.stats);
-    now = mix_fw_version(text, now, fw_version);
-    mix_fw_info(text, now, fw_info)
+pub(crate) fn mix(answers: &mut Answers, reply: CommandReply) -> io::Result<()> {
+    answers.mix(u32::from(reply.kind.number()))?;
+    answers.mix_words(&of_values(reply.values))?;
+    answers.mix_words(&of_setup_values(reply.setup_values))?;
+    answers.mix_words(&of_stats(reply.stats))?;
+    mix_fw_version(answers, reply.fw_version)?;
+    mix_fw_info(answers, reply.fw_info)
 }
 
-// The values returned with a refusal.
-fn returned(text: &mut [u8], line: Line, e: DecodeError) -> Line {
-    let now = shows::refused(text, line, e.number());
+// A count, or the refusal with the values returned with it.
+pub(crate) fn count(answers: &mut Answers, answer: Result<usize, DecodeError>) -> io::Result<()> {
+    let e = match answer {
+        Ok(count) => return answers.given(count),
+        Err(e) => e,
+    };
+    answers.refused(e.number())?;
     match e {
-        DecodeError::IncompleteData => now,
-        DecodeError::InvalidFrame => now,
-        DecodeError::UnknownPacket { id } => shows::decimal(text, now, id as u64),
+        DecodeError::IncompleteData | DecodeError::InvalidFrame => Ok(()),
+        DecodeError::UnknownPacket { id } => write!(answers.out, " {id}"),
         DecodeError::ChecksumMismatch { expected, actual } => {
-            let after = shows::decimal(text, now, expected as u64);
-            shows::decimal(text, after, actual as u64)
+            write!(answers.out, " {expected} {actual}")
         }
     }
 }
 
-pub(crate) fn count(text: &mut [u8], line: Line, answer: Result<usize, DecodeError>) -> Line {
-    match answer {
-        Ok(count) => shows::given(text, line, count),
-        Err(e) => returned(text, line, e),
-    }
-}
-
-pub(crate) fn case(text: &mut [u8], line: Line, slice: &[u8]) -> Line {
+// A refusal comes with the empty reply: so does the answer that the Rust's is made to be.
+pub(crate) fn case(answers: &mut Answers, slice: &[u8]) -> io::Result<()> {
     let decoded = reply::decode(slice);
-    let answer = decoded.answer;
-    let reply = decoded.reply;
-    let told = count(text, line, answer);
-    let mixed = mix(text, told, reply);
-    shows::digest(text, mixed)
+    count(answers, decoded.map(|(count, _)| count))?;
+    let reply = match decoded {
+        Ok((_, reply)) => reply,
+        Err(_) => reply::empty(),
+    };
+    mix(answers, reply)?;
+    answers.digest()
 }
