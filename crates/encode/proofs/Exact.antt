@@ -1,6 +1,6 @@
 -- What `encode` promises, `EncodeIs`, leaves one answer and one buffer; a refusal leaves the buffer alone, and a success leaves a frame in it.
 -- All for every command, every list of hops and every buffer.
-use mathlib.Core.Path.{◌≡◌, refl, sym, ap, ◌∙◌}
+use mathlib.Core.Path.{◌≡◌, sym, ◌∙◌}
 use mathlib.Core.List.{List, ◌++◌}
 use Prim.Native.Nat.{ℕ}
 use native.Mathlib.Omega.{arith}

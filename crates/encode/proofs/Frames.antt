@@ -1,20 +1,18 @@
 -- A hop and a payload as runs of writes, and the answer of the whole.
 use mathlib.Core.Path.{◌≡◌, sym, ap, ◌∙◌}
-use mathlib.Core.List.{List, [], ◌∷◌, ◌++◌}
-use Prim.Native.Nat.{ℕ, ◌-◌, ◌≤◌, ◌<◌}
-use lib.ListN.{length, drop, get_or}
+use mathlib.Core.List.{List, ◌++◌}
+use Prim.Native.Nat.{ℕ, ◌≤◌, ◌<◌}
+use lib.ListN.{length, drop}
 use Rattle.refusals.specs.Refusals.{ok}
 use Rattle.std.specs.Prelude.{Result, Err}
 use Rattle.refusals.specs.declared.EncodeError.{EncodeError}
 use Rattle.refusals.specs.declared.EncodeError.TheVariants.{BufferTooSmall, PayloadTooLong}
-use Rattle.command.specs.Commands.{bytes_of}
 use Rattle.command.specs.declared.Command.{Command}
-use Rattle.format.specs.Format.{id_of, payload_max}
-use Rattle.format.specs.declared.CommandId.TheVariants.{ForwardCan}
+use Rattle.format.specs.Format.{payload_max}
 use Rattle.frame.specs.Frame.{short, frame_of, frame_size}
 use Rattle.frame.specs.Wrapping.{wrap_answer}
 use Rattle.frame.proofs.Wrapped.{answer-too-long, answer-too-small, answer-fits, after-answer}
-use Rattle.encode.specs.Payload.{hop_bytes, payload_of}
+use Rattle.encode.specs.Payload.{payload_of}
 use Rattle.encode.specs.Encode.{encoded, EncodeIs}
 
 -- ---- the answer of the whole

@@ -1,5 +1,4 @@
 -- A hop and a payload as writes that follow each other, where there is room for all of them.
-use mathlib.Core.Path.{◌≡◌}
 use mathlib.Core.List.{List, [], ◌∷◌}
 use Prim.Native.Nat.{ℕ, ◌+◌, ◌-◌, ◌*◌, ◌≤◌, ◌<◌}
 use native.Mathlib.Omega.{arith}
@@ -13,7 +12,7 @@ use Rattle.format.specs.declared.CommandId.TheVariants.{ForwardCan}
 use Rattle.packer.specs.Numbers.{big_endian}
 use Rattle.packer.specs.Packing.{PackIs}
 use Rattle.packer.proofs.Writes.{byte, none-packed}
-use Rattle.raw_command.proofs.Packing.{ends-behind, then}
+use Rattle.raw_command.proofs.Packing.{then}
 use Rattle.encode.specs.Payload.{hop_bytes, payload_of}
 use Rattle.encode.proofs.Payloads.{hops-length, no-hops, first-hop, rest-length, payload-length}
 
