@@ -45,11 +45,11 @@ module _ (d : Decoder) (s : Sound d) (u : List ℕ) (lent : u ≡ (fields_buffer
   size = ap length lent ∙ unread-length d s
 
   -- Its read position stays within, behind bytes moved over and behind a frame.
-  pub over-room : (over : ℕ) (found : Option ℕ) → Ended u over found → d.rpos + over ≤ d.wpos
-  over-room over found e = omega (arith, over_within u (over, found) e, size, s.low)
+  pub over_room : (over : ℕ) (found : Option ℕ) → Ended u over found → d.rpos + over ≤ d.wpos
+  over_room over found e = omega (arith, over_within u (over, found) e, size, s.low)
 
-  pub found-room : (over count : ℕ) → Ended u over (Some count) → d.rpos + over + count ≤ d.wpos
-  found-room over count e = omega (arith, found_within decode_judge decode-steady reply_in u over count e, size, s.low)
+  pub found_room : (over count : ℕ) → Ended u over (Some count) → d.rpos + over + count ≤ d.wpos
+  found_room over count e = omega (arith, found_within decode_judge decode-steady reply_in u over count e, size, s.low)
 
   module _ (self : Decoder) (held : fields_buffer d ≡ buffer_of self) where
     -- what `next` hands back, from where the search ended
@@ -80,7 +80,7 @@ module _ (d : Decoder) (s : Sound d) (u : List ℕ) (lent : u ≡ (fields_buffer
         → NextIs self (record { given = Some (count, reply); decoder = on d (d.rpos + over + count) handed passed false })
     unfolding raised
     next-found over count e reply is handed passed eh ep =
-        let fits : d.rpos + (over + count) ≤ d.wpos = omega (arith, found-room over count e) in
+        let fits : d.rpos + (over + count) ≤ d.wpos = omega (arith, found_room over count e) in
         let at : d.rpos + over + count ≡ d.rpos + (over + count) = omega arith in
         next-is (found_at reply_in u over count) e _ refl refl (is ∙ ap reply_in (lent-rest u over))
         (further-sound (over + count) _ handed passed false at fits (λ q. absurd (true≢false (sym q))))
@@ -103,7 +103,7 @@ module _ (d : Decoder) (s : Sound d) (u : List ℕ) (lent : u ≡ (fields_buffer
         let told : 110 ≤ length left → ⊥ = (λ q. decode-bounded.told left q (nothing-waits decode_judge decode-steady u over left (sym e))) in
         let few : d.wpos - d.rpos ≤ over + 109 = omega (arith, length-drop over u, size) in
         next-is (nothing_at u over) e _ refl refl refl
-        (further-sound over _ d.handed passed true refl (over-room over None e) (λ q. few))
+        (further-sound over _ d.handed passed true refl (over_room over None e) (λ q. few))
         (λ i.
         record {
           unread = further-unread over _ refl i;

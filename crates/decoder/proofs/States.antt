@@ -1,6 +1,6 @@
 -- The buffer that a decoder holds, by its fields; and after each part of `feed`.
 use mathlib.Core.Path.{◌≡◌, refl, sym, ap, ◌∙◌}
-use mathlib.Core.Bool.{Bool, true, false, cond, ◌&&◌}
+use mathlib.Core.Bool.{Bool, true, false, ◌&&◌}
 use mathlib.Core.List.{List, ◌++◌}
 use Prim.Native.Nat.{ℕ, ◌+◌, ◌-◌, ◌<◌, ◌≤◌}
 use native.Mathlib.Omega.{arith}
@@ -20,17 +20,17 @@ use Rattle.decoder.specs.State.{buffer_of, fields_buffer, Sound, BufferIs}
 
 -- ---- by the tests that a program makes
 
-pub past-end-fresh : (d : Decoder) → 512 < d.wpos → buffer_of d ≡ fresh
+pub past_end_fresh : (d : Decoder) → 512 < d.wpos → buffer_of d ≡ fresh
 unfolding buffer_of
-past-end-fresh d h = simp (lt-ltb _ _ h)
+past_end_fresh d h = simp (lt-ltb _ _ h)
 
-pub past-write-fresh : (d : Decoder) → d.wpos ≤ 512 → d.wpos < d.rpos → buffer_of d ≡ fresh
+pub past_write_fresh : (d : Decoder) → d.wpos ≤ 512 → d.wpos < d.rpos → buffer_of d ≡ fresh
 unfolding buffer_of
-past-write-fresh d h k = simp (le-ltb _ _ h, lt-ltb _ _ k)
+past_write_fresh d h k = simp (le-ltb _ _ h, lt-ltb _ _ k)
 
-pub many-unread-fresh : (d : Decoder) → d.wpos ≤ 512 → d.rpos ≤ d.wpos → d.drained ≡ true → 109 < d.wpos - d.rpos → buffer_of d ≡ fresh
+pub many_unread_fresh : (d : Decoder) → d.wpos ≤ 512 → d.rpos ≤ d.wpos → d.drained ≡ true → 109 < d.wpos - d.rpos → buffer_of d ≡ fresh
 unfolding buffer_of
-many-unread-fresh d h k m j = simp (le-ltb _ _ h, le-ltb _ _ k, m, lt-ltb _ _ j)
+many_unread_fresh d h k m j = simp (le-ltb _ _ h, le-ltb _ _ k, m, lt-ltb _ _ j)
 
 -- a mark that is believed
 few-unread : (d : Decoder) (b : Bool) → d.drained ≡ b → (d.drained ≡ true → d.wpos - d.rpos ≤ 109) → (d.drained && ltb 109 (d.wpos - d.rpos)) ≡ false
@@ -69,19 +69,12 @@ moved_fields d n s h buf e =
     ∙ sym (moved-when n (fields_buffer d) h)
 
 -- n bytes of the piece copied behind them
-pub copied-unread : (d : Decoder) (part : List ℕ) (n k : ℕ) → Sound d → n ≡ length part
+pub copied_unread : (d : Decoder) (part : List ℕ) (n k : ℕ) → Sound d → n ≡ length part
     → slice d.rpos (d.wpos + n) (put_mid d.wpos k d.buf part) ≡ slice d.rpos d.wpos d.buf ++ part
-copied-unread d part n k s size =
+copied_unread d part n k s size =
     let within : d.wpos ≤ length d.buf = omega (arith, s.high, s.long) in
     ap (drop d.rpos) (take-put_mid d.wpos k d.buf part (d.wpos + n) (ap (λ (m : ℕ). d.wpos + m) size) within)
     ∙ drop-append-le d.rpos (take d.wpos d.buf) part (rw (length-take-le d.wpos d.buf within) s.low)
-
--- the mark after a piece
-pub mark-after : (mark none : Bool) → (mark && none) ≡ cond none mark false
-mark-after true true = refl
-mark-after true false = refl
-mark-after false true = refl
-mark-after false false = refl
 
 -- the mark
 pub marked-buffer : (d : Decoder) (buffer : Buffer) → BufferIs buffer d → d.drained ≡ buffer.drained

@@ -113,7 +113,7 @@ impl Settled {
     }
 
     // Copies as much of the piece as fits. An empty piece leaves the mark as it is.
-    #[tactic(auto, unfolding(buffer::specs::Buffer::copied, buffer::specs::Buffer::fitting, buffer::specs::Buffer::raised))]
+    #[tactic(auto, using(crate::proofs::States::copied_unread), unfolding(buffer::specs::Buffer::copied, buffer::specs::Buffer::fitting, buffer::specs::Buffer::raised))]
     fn copied(mut self, piece: &[u8]) -> (usize, Settled)
         ensures count { result.0 ≡ fitting (length piece.now) (fields_buffer self.decoder) }
         ensures buffer { fields_buffer result.1.decoder ≡ copied piece.now result.0 (fields_buffer self.decoder) }
@@ -154,7 +154,7 @@ impl Decoder {
     }
 
     // A state that no calls can make is taken as a fresh one.
-    #[tactic(auto, unfolding(crate::specs::State::buffer_of))]
+    #[tactic(auto, using(crate::proofs::States::held_fields, crate::proofs::States::past_end_fresh, crate::proofs::States::past_write_fresh, crate::proofs::States::many_unread_fresh))]
     fn settled(self) -> Settled
         ensures buffer { fields_buffer result.decoder ≡ buffer_of self }
         ensures value { Sound self → result.decoder ≡ self }
@@ -213,7 +213,7 @@ impl Decoder {
     }
 
     // The next reply among the unread bytes, if a whole frame is there.
-    #[tactic(auto, using(crate::proofs::Seeking::over_within))]
+    #[tactic(auto, using(crate::proofs::Seeking::over_within, crate::proofs::Seeking::over_room, crate::proofs::Seeking::found_room))]
     pub fn next(self) -> Next
         ensures { NextIs self result }
     {
