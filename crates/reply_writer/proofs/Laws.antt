@@ -38,7 +38,8 @@ use Rattle.raw_reply.proofs.OfKind.{raw_of-kind}
 use Rattle.raw_reply.proofs.Laws.{remade-as, cleared-as, good-carries}
 use Rattle.reply_writer.specs.Writer.{known_mask, good_names_as, good_names, payload_as, payload_of, write_answer, written_reply, WriteIs}
 use Rattle.reply_writer.specs.Laws.{read_as, WroteFrame, WriterLaws}
-use Rattle.reply_writer.specs.declared.ReplyWritten.{ReplyWritten}
+use Rattle.std.specs.Prelude.{Result}
+use Rattle.refusals.specs.declared.ReplyWriteError.{ReplyWriteError}
 use Rattle.reply_writer.proofs.Sent.{sent-fits, made-cleared, kind-as, raws-as, names-as}
 
 -- ---- a payload of a kind is read to its end, as what was sent
@@ -177,7 +178,7 @@ module _ (kind : Kind) (payload : List ℕ) (is : get_or payload 0 0 ≡ kind_nu
   names-back = ap (λ (k : Kind). good_names_as k (raw_as kind payload)) (kind-as kind payload) ∙ names-as kind payload fits
 
 writes-read : (s : List ℕ) → Bytes s → (count : ℕ) → (raw_read_of s).answer ≡ ok count → known_mask (raw_read_of s).reply ≡ true
-    → (buffer after : List ℕ) (w : ReplyWritten) → count ≤ length buffer → WriteIs (raw_read_of s).reply buffer w after
+    → (buffer after : List ℕ) (w : Result ℕ ReplyWriteError) → count ≤ length buffer → WriteIs (raw_read_of s).reply buffer w after
     → (written_reply w ≡ ok count) × (after ≡ take count s ++ drop count buffer)
 unfolding raw_read_of raw_in write_answer
 writes-read s b count e known buffer after w room is =

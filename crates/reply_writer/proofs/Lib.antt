@@ -1,5 +1,5 @@
 pub mod Names
-pub mod Each
+pub mod Runs
 pub mod Payloads
 pub mod Firmware
 pub mod Writing

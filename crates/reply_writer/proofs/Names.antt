@@ -1,6 +1,5 @@
 -- Names: how many bytes of one are sent.
-use mathlib.Core.Path.{◌≡◌, refl, sym, ap₂, ◌∙◌}
-use mathlib.Core.Bool.{Bool, ◌&&◌}
+use mathlib.Core.Path.{◌≡◌, refl}
 use mathlib.Core.List.{List}
 use Prim.Native.Nat.{ℕ, ◌≤◌}
 use native.Mathlib.Omega.{arith}
@@ -8,9 +7,11 @@ use lib.ListN.{length, take}
 use lib.Seq.{length-take-le}
 use Rattle.refusals.specs.Refusals.{Answer, ok, refused}
 use Rattle.refusals.specs.Answers.{place_or}
-use Rattle.names.specs.Names.{sent_of}
+use Rattle.names.specs.Names.{sent_of, name_sent}
 use Rattle.names.proofs.Sent.{sent-given}
-use Rattle.reply_writer.specs.Writer.{is_name}
+use Rattle.reply_writer.specs.Writer.{is_given}
+use Rattle.std.specs.Prelude.{Option, Some, None}
+use Rattle.core.specs.Option.{unwrap_or, is_some}
 
 -- what is sent of a name lies in it
 pub sent-inside : (room : ℕ) (held : List ℕ) → place_or 0 (sent_of room held) ≤ length held
@@ -27,11 +28,11 @@ sent_bytes room held = take (place_or 0 (sent_of room held)) held
 pub sent-length : (room : ℕ) (held : List ℕ) → length (sent_bytes room held) ≡ place_or 0 (sent_of room held)
 sent-length room held = length-take-le (place_or 0 (sent_of room held)) held (sent-inside room held)
 
--- in a name that fills its room
-pub sent-in : {room n : ℕ} (held : List ℕ) → room ≡ length held → n ≡ place_or 0 (sent_of (length held) held) → n ≡ place_or 0 (sent_of room held)
-sent-in {room} {n} held long is = rw long is
+-- what `sent_len` gives of it
+pub sent-or : (given : Option ℕ) (a : Answer ℕ) → name_sent given ≡ a → unwrap_or given 0 ≡ place_or 0 a
+sent-or (Some len) a is = rw (← is)
+sent-or None a is = rw (← is)
 
--- two names that fill their rooms
-pub both-in : {room : ℕ} {b : Bool} (first second : List ℕ) → room ≡ length first → room ≡ length second
-    → b ≡ (is_name (length first) first && is_name (length second) second) → b ≡ (is_name room first && is_name room second)
-both-in first second long long2 is = is ∙ ap₂ (λ (m n : ℕ). is_name m first && is_name n second) (sym long) (sym long2)
+pub sent-given_is : (given : Option ℕ) (a : Answer ℕ) → name_sent given ≡ a → is_some given ≡ is_given a
+sent-given_is (Some len) a is = rw (← is)
+sent-given_is None a is = rw (← is)

@@ -4,10 +4,11 @@ use mathlib.Core.List.{List, [], ◌∷◌, ◌++◌, append-nil}
 use Prim.Native.Nat.{ℕ, suc, ◌+◌, ◌-◌, ◌≤◌}
 use native.Mathlib.Omega.{arith}
 use lib.ListN.{length, replicate, length-append}
-use Rattle.format.specs.Format.{payload_at, table_rows, all_values}
+use Rattle.format.specs.Format.{table_rows, all_values}
 use Rattle.packer.specs.Numbers.{big_endian, total, digits}
 use Rattle.packer.specs.Packing.{PackIs}
-use Rattle.packer.specs.declared.Packed.{Packed}
+use Rattle.refusals.specs.declared.EncodeError.{EncodeError}
+use Rattle.std.specs.Prelude.{Result}
 use Rattle.packer.proofs.Digits.{digits-total, digits-front}
 use Rattle.tables.specs.Tables.{Field, values_table, setup_table, stats_table, widths, most}
 use Rattle.tables.specs.Rows.{padded}
@@ -134,8 +135,8 @@ module _ (r : RawReply) where
 -- ---- the same bytes
 
 -- they need the same room, and are written alike
-pub room_as : {p q : List ℕ} {n : ℕ} → p ≡ q → payload_at + length p ≤ n → payload_at + length q ≤ n
-room_as {n = n} same room = subst (λ (bytes : List ℕ). payload_at + length bytes ≤ n) same room
+pub room-as : {p q : List ℕ} {n : ℕ} (at : ℕ) → p ≡ q → at + length p ≤ n → at + length q ≤ n
+room-as {n = n} at same room = subst (λ (bytes : List ℕ). at + length bytes ≤ n) same room
 
-pub packed-as : {p q l after : List ℕ} {at : ℕ} {r : Packed} → p ≡ q → PackIs q l at r after → PackIs p l at r after
+pub packed-as : {p q l after : List ℕ} {at : ℕ} {r : Result ℕ EncodeError} → p ≡ q → PackIs q l at r after → PackIs p l at r after
 packed-as {l = l} {after} {at} {r} same w = subst (λ (bytes : List ℕ). PackIs bytes l at r after) (sym same) w

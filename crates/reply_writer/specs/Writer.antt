@@ -1,8 +1,9 @@
 -- A raw reply written as a frame. Document 02, W4: "a writer from it, for all seven replies. Only fields whose mask bit is set are written .. GetValues
 -- ignores its mask when writing (8 is not given for it) .. Refusals: 8 UnknownMaskBits, 7 BadName (no NUL in its room, or a nonzero byte after it), 5, in that
 -- order; the buffer is then unchanged."
-use Rattle.std.specs.Prelude.{Bool, true, false, ◌&&◌, ◌≡◌, List, ◌∷◌, ℕ, length}
-use Rattle.refusals.specs.Refusals.{Answer, ok, refused, unknown_mask_bits, bad_name, reply_write_refusal}
+use Rattle.std.specs.Prelude.{Bool, true, false, ◌&&◌, ◌≡◌, List, ◌∷◌, ℕ, Result, length}
+use Rattle.refusals.specs.Refusals.{Answer, ok, refused, answer_by, unknown_mask_bits, bad_name, reply_write_refusal}
+use Rattle.refusals.specs.declared.ReplyWriteError.{ReplyWriteError}
 use Rattle.refusals.specs.Answers.{unless}
 use Rattle.format.specs.Format.{name_room, hash_room}
 use Rattle.names.specs.Names.{sent_of}
@@ -16,8 +17,6 @@ use Rattle.reply.specs.Reply.{kind_number}
 use Rattle.reply.specs.declared.Kind.{Kind}
 use Rattle.raw_reply.specs.RawReply.{layout_for, cleared, raws_in}
 use Rattle.raw_reply.specs.declared.RawReply.{RawReply}
-use Rattle.reply_writer.specs.declared.ReplyWritten.{ReplyWritten}
-use Rattle.reply_writer.specs.declared.ReplyWritten.TheVariants.{Written, Refused}
 
 -- 1. What is judged: the mask and the names of the kind that is written.
 
@@ -67,11 +66,11 @@ payload_of r = payload_as r.kind r
 unfoldable pub write_answer : RawReply → ℕ → Answer ℕ
 write_answer r room = unless (known_mask r) unknown_mask_bits (unless (good_names r) bad_name (room_answer (length (payload_of r)) room))
 
-abbrev pub written_reply : ReplyWritten → Answer ℕ
-written_reply (Written count) = ok count
-written_reply (Refused e) = refused (reply_write_refusal e)
+-- what is returned: the bytes of the frame, or the refusal
+abbrev pub written_reply : Result ℕ ReplyWriteError → Answer ℕ
+written_reply result = answer_by reply_write_refusal result
 
 -- writing r into the buffer l: `w` is returned, and `after` is what the buffer then holds
-pub record WriteIs (r : RawReply) (l : List ℕ) (w : ReplyWritten) (after : List ℕ) : Type 0 where
+pub record WriteIs (r : RawReply) (l : List ℕ) (w : Result ℕ ReplyWriteError) (after : List ℕ) : Type 0 where
   pub answer : written_reply w ≡ write_answer r (length l)
   pub holds : after ≡ held_after (write_answer r (length l)) (frame_of short (payload_of r)) l

@@ -24,27 +24,22 @@ use firmware::{FwInfo, RawFwVersion};
 use format::{FRAME_EXTRA, PAYLOAD_AT};
 use raw_reply::RawReply;
 use raw_telemetry::RawValues;
-use refusals::ReplyWriteError;
+use refusals::{EncodeError, ReplyWriteError};
 use reply::Kind;
 use tables::Sort;
 
-// What `write_reply` returns: how many bytes the frame has, or the refusal.
 // Whether the mask of the kind that is written has no bit but its table's. GetValues sends no mask.
 fn known_mask(reply: RawReply) -> bool
     ensures { result ≡ known_mask reply }
 {
-    let kind = reply.kind;
-    match kind {
-        Kind::FwVersion => true,
-        Kind::GetValues => true, // its mask is not sent
+    match reply.kind {
         Kind::GetValuesSelective => tables::known_bits(Sort::Values, reply.values.mask),
         Kind::GetValuesSetupSelective => tables::known_bits(
             Sort::SetupValues,
             reply.setup_values.mask,
         ),
         Kind::GetStats => tables::known_bits(Sort::Stats, reply.stats.mask),
-        Kind::ResetStats => true,
-        Kind::FwInfo => true,
+        Kind::FwVersion | Kind::GetValues | Kind::ResetStats | Kind::FwInfo => true,
     }
 }
 
@@ -52,53 +47,22 @@ fn known_mask(reply: RawReply) -> bool
 fn is_name(held: &[u8]) -> bool
     ensures { result ≡ is_name (length held.now) held.now }
 {
-    match names::sent_len(held) {
-        Some(_) => true,
-        None => false,
-    }
-}
-
-// Whether both are.
-fn are_names(first: &[u8], second: &[u8]) -> bool
-    ensures { result ≡ (is_name (length first.now) first.now && is_name (length second.now) second.now) }
-{
-    if is_name(first) {
-        return is_name(second);
-    }
-    false
-}
-
-// The names of FwVersion. The length of an array is known only of a field of the parameter itself, so the record comes by itself.
-fn version_names(version: RawFwVersion) -> bool
-    ensures { result ≡ (is_name name_room version.hw_name && is_name name_room version.fw_name) }
-{
-    let hw_name = version.hw_name;
-    let fw_name = version.fw_name;
-    are_names(&hw_name, &fw_name)
-}
-
-// The names of FwInfo.
-fn info_names(info: FwInfo) -> bool
-    ensures { result ≡ (is_name hash_room info.commit_hash && is_name hash_room info.user_commit_hash) }
-{
-    let commit_hash = info.commit_hash;
-    let user_commit_hash = info.user_commit_hash;
-    are_names(&commit_hash, &user_commit_hash)
+    names::sent_len(held).is_some()
 }
 
 // Whether the names of the kind that is written can be sent.
 fn good_names(reply: RawReply) -> bool
     ensures { result ≡ good_names reply }
 {
-    let kind = reply.kind;
-    match kind {
-        Kind::FwVersion => version_names(reply.fw_version),
-        Kind::GetValues => true,
-        Kind::GetValuesSelective => true,
-        Kind::GetValuesSetupSelective => true,
-        Kind::GetStats => true,
-        Kind::ResetStats => true,
-        Kind::FwInfo => info_names(reply.fw_info),
+    match reply.kind {
+        Kind::FwVersion => is_name(&reply.fw_version.hw_name) && is_name(&reply.fw_version.fw_name),
+        Kind::FwInfo => is_name(&reply.fw_info.commit_hash)
+            && is_name(&reply.fw_info.user_commit_hash),
+        Kind::GetValues
+        | Kind::GetValuesSelective
+        | Kind::GetValuesSetupSelective
+        | Kind::GetStats
+        | Kind::ResetStats => true,
     }
 }
 
@@ -106,18 +70,14 @@ fn good_names(reply: RawReply) -> bool
 fn name_len(held: &[u8]) -> usize
     ensures { (result ≡ place_or 0 (sent_of (length held.now) held.now)) × (result ≤ length held.now) }
 {
-    match names::sent_len(held) {
-        Some(len) => len,
-        None => 0,
-    }
+    names::sent_len(held).unwrap_or(0)
 }
 
 // A name at a position, without the zeros behind its NUL.
 fn pack_name(held: &[u8], buf: &mut [u8], pos: usize) -> Result<usize, EncodeError>
     ensures { PackIs (take (place_or 0 (sent_of (length held.now) held.now)) held.now) buf.old pos result buf.new }
 {
-    let len = name_len(held);
-    packer::pack_bytes(buf, pos, &held[0..len])
+    packer::pack_bytes(buf, pos, &held[..name_len(held)])
 }
 
 // The bytes of a masked reply: the id, the mask, and the fields that the mask has.
@@ -131,26 +91,21 @@ fn masked_len(sort: Sort, mask: u32) -> usize
 fn fw_version_len(version: RawFwVersion) -> usize
     ensures { (result ≡ length (kind_number kind.FwVersion ∷ written fw_version_layout (version_raws version))) × (result ≤ payload_max) }
 {
-    let hw_name = version.hw_name;
-    let fw_name = version.fw_name;
-    27 + name_len(&hw_name) + name_len(&fw_name)
+    27 + name_len(&version.hw_name) + name_len(&version.fw_name)
 }
 
 // The bytes of FwInfo: the id, three others, and its names.
 fn fw_info_len(info: FwInfo) -> usize
     ensures { (result ≡ length (kind_number kind.FwInfo ∷ written fw_info_layout (info_raws info))) × (result ≤ payload_max) }
 {
-    let commit_hash = info.commit_hash;
-    let user_commit_hash = info.user_commit_hash;
-    4 + name_len(&commit_hash) + name_len(&user_commit_hash)
+    4 + name_len(&info.commit_hash) + name_len(&info.user_commit_hash)
 }
 
 // The bytes of the payload. GetValues has every field, and no mask.
 fn payload_len(reply: RawReply) -> usize
     ensures { (result ≡ length (payload_of reply)) × (result ≤ payload_max) }
 {
-    let kind = reply.kind;
-    match kind {
+    match reply.kind {
         Kind::FwVersion => fw_version_len(reply.fw_version),
         Kind::GetValues => 1 + tables::span(Sort::Values, format::ALL_VALUES),
         Kind::GetValuesSelective => masked_len(Sort::Values, reply.values.mask),
@@ -159,19 +114,6 @@ fn payload_len(reply: RawReply) -> usize
         Kind::ResetStats => 1,
         Kind::FwInfo => fw_info_len(reply.fw_info),
     }
-}
-
-// Bytes one after the other from a position on.
-fn pack_each(part: &[u8], buf: &mut [u8], pos: usize) -> Result<usize, EncodeError>
-    requires { pos + length part.now ≤ length buf.old }
-    ensures { PackIs (digits (replicate (length part.now) 1) part.now) buf.old pos result buf.new }
-{
-    let mut k: usize = 0;
-    while k < part.len() {
-        packer::pack_u8(buf, pos + k, part[k]);
-        k += 1;
-    }
-    Ok(pos + k)
 }
 
 // A masked reply: the id, the mask, and the fields that the mask has, from the raw numbers of all.
@@ -185,9 +127,9 @@ fn pack_masked(
     requires { payload_at + length (digits (1 ∷ mask_widths mask (table_of sort)) (id ∷ mask ∷ raw)) ≤ length buf.old }
     ensures { PackIs (digits (1 ∷ mask_widths mask (table_of sort)) (id ∷ mask ∷ raw)) buf.old payload_at result buf.new }
 {
-    packer::pack_u8(buf, PAYLOAD_AT, id);
-    packer::pack_u32(buf, PAYLOAD_AT + 1, mask);
-    tables::pack_fields(buf, PAYLOAD_AT + 5, sort, mask, raw)
+    let mask_at = packer::pack_u8(buf, PAYLOAD_AT, id)?;
+    let fields_at = packer::pack_u32(buf, mask_at, mask)?;
+    tables::pack_fields(buf, fields_at, sort, mask, raw)
 }
 
 // GetValues: the id, and every field.
@@ -195,10 +137,10 @@ fn pack_get_values(values: RawValues, buf: &mut [u8]) -> Result<usize, EncodeErr
     requires { payload_at + length (digits (1 ∷ widths all_values values_table) (kind_number kind.GetValues ∷ numbers_of values_table (values_rows values))) ≤ length buf.old }
     ensures { PackIs (digits (1 ∷ widths all_values values_table) (kind_number kind.GetValues ∷ numbers_of values_table (values_rows values))) buf.old payload_at result buf.new }
 {
-    packer::pack_u8(buf, PAYLOAD_AT, format::GET_VALUES);
+    let fields_at = packer::pack_u8(buf, PAYLOAD_AT, format::GET_VALUES)?;
     tables::pack_fields(
         buf,
-        PAYLOAD_AT + 1,
+        fields_at,
         Sort::Values,
         format::ALL_VALUES,
         raw_telemetry::values_numbers(values),
@@ -206,11 +148,14 @@ fn pack_get_values(values: RawValues, buf: &mut [u8]) -> Result<usize, EncodeErr
 }
 
 // What follows hw_name in FwVersion.
-fn pack_fw_version_after(version: RawFwVersion, buf: &mut [u8], pos: usize) -> Result<usize, EncodeError>
+fn pack_fw_version_after(
+    version: RawFwVersion,
+    buf: &mut [u8],
+    pos: usize,
+) -> Result<usize, EncodeError>
     requires { pos + length (written fw_version_rest (version_raws version).1.1) ≤ length buf.old }
     ensures { PackIs (written fw_version_rest (version_raws version).1.1) buf.old pos result buf.new }
 {
-    let uuid = version.uuid;
     let single = [
         version.pairing_done,
         version.test_version_number,
@@ -221,12 +166,10 @@ fn pack_fw_version_after(version: RawFwVersion, buf: &mut [u8], pos: usize) -> R
         version.qml_app,
         version.nrf_flags,
     ];
-    let fw_name = version.fw_name;
-    let end = pos + 20 + name_len(&fw_name);
-    pack_each(&uuid, buf, pos);
-    pack_each(&single, buf, pos + 12);
-    pack_name(&fw_name, buf, pos + 20);
-    packer::pack_u32(buf, end, version.hw_crc)
+    let single_at = packer::pack_bytes(buf, pos, &version.uuid)?;
+    let fw_name_at = packer::pack_bytes(buf, single_at, &single)?;
+    let crc_at = pack_name(&version.fw_name, buf, fw_name_at)?;
+    packer::pack_u32(buf, crc_at, version.hw_crc)
 }
 
 fn pack_fw_version(version: RawFwVersion, buf: &mut [u8]) -> Result<usize, EncodeError>
@@ -234,11 +177,9 @@ fn pack_fw_version(version: RawFwVersion, buf: &mut [u8]) -> Result<usize, Encod
     ensures { PackIs (kind_number kind.FwVersion ∷ written fw_version_layout (version_raws version)) buf.old payload_at result buf.new }
 {
     let front = [format::FW_VERSION, version.major, version.minor];
-    let hw_name = version.hw_name;
-    let end = PAYLOAD_AT + 3 + name_len(&hw_name);
-    pack_each(&front, buf, PAYLOAD_AT);
-    pack_name(&hw_name, buf, PAYLOAD_AT + 3);
-    pack_fw_version_after(version, buf, end)
+    let hw_name_at = packer::pack_bytes(buf, PAYLOAD_AT, &front)?;
+    let uuid_at = pack_name(&version.hw_name, buf, hw_name_at)?;
+    pack_fw_version_after(version, buf, uuid_at)
 }
 
 fn pack_fw_info(info: FwInfo, buf: &mut [u8]) -> Result<usize, EncodeError>
@@ -251,12 +192,9 @@ fn pack_fw_info(info: FwInfo, buf: &mut [u8]) -> Result<usize, EncodeError>
         info.minor,
         info.test_version_number,
     ];
-    let commit_hash = info.commit_hash;
-    let user_commit_hash = info.user_commit_hash;
-    let end = PAYLOAD_AT + 4 + name_len(&commit_hash);
-    pack_each(&front, buf, PAYLOAD_AT);
-    pack_name(&commit_hash, buf, PAYLOAD_AT + 4);
-    pack_name(&user_commit_hash, buf, end)
+    let commit_at = packer::pack_bytes(buf, PAYLOAD_AT, &front)?;
+    let user_at = pack_name(&info.commit_hash, buf, commit_at)?;
+    pack_name(&info.user_commit_hash, buf, user_at)
 }
 
 // The payload at its place in a buffer that has room for it.
@@ -264,8 +202,7 @@ fn pack_payload(reply: RawReply, buf: &mut [u8]) -> Result<usize, EncodeError>
     requires { payload_at + length (payload_of reply) ≤ length buf.old }
     ensures { PackIs (payload_of reply) buf.old payload_at result buf.new }
 {
-    let kind = reply.kind;
-    match kind {
+    match reply.kind {
         Kind::FwVersion => pack_fw_version(reply.fw_version, buf),
         Kind::GetValues => pack_get_values(reply.values, buf),
         Kind::GetValuesSelective => pack_masked(
@@ -294,29 +231,22 @@ fn pack_payload(reply: RawReply, buf: &mut [u8]) -> Result<usize, EncodeError>
     }
 }
 
-// The frame of a reply whose mask and names are good. With room for it `frame::wrap` refuses nothing: no payload of a reply is too long.
-fn write_good(reply: RawReply, buf: &mut [u8]) -> Result<usize, ReplyWriteError>
-    requires { (known_mask reply ≡ true) × (good_names reply ≡ true) }
-    ensures { WriteIs reply buf.old result buf.new }
-{
-    let len = payload_len(reply);
-    if buf.len() < len + FRAME_EXTRA {
-        return Err(ReplyWriteError::BufferTooSmall); // refusal 5, tested last
-    }
-    pack_payload(reply, buf);
-    frame::wrap(len, buf);
-    Ok(len + FRAME_EXTRA)
-}
-
 // Writes the frame of a raw reply at the front of `buf`. A refusal writes nothing.
 pub fn write_reply(reply: RawReply, buf: &mut [u8]) -> Result<usize, ReplyWriteError>
     ensures { WriteIs reply buf.old result buf.new }
 {
-    if known_mask(reply) {
-        if good_names(reply) {
-            return write_good(reply, buf);
-        }
+    if !known_mask(reply) {
+        return Err(ReplyWriteError::UnknownMaskBits); // refusal 8, tested first
+    }
+    if !good_names(reply) {
         return Err(ReplyWriteError::BadName); // refusal 7, tested before 5
     }
-    Err(ReplyWriteError::UnknownMaskBits) // refusal 8, tested first
+    let len = payload_len(reply);
+    if buf.len() < len + FRAME_EXTRA {
+        return Err(ReplyWriteError::BufferTooSmall); // refusal 5, tested last
+    }
+    // With room, neither refuses: no payload of a reply is too long for a frame.
+    let _ = pack_payload(reply, buf);
+    let _ = frame::wrap(len, buf);
+    Ok(len + FRAME_EXTRA)
 }

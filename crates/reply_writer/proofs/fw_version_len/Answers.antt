@@ -1,34 +1,19 @@
 -- `reply_writer::fw_version_len` meets its contract.
-use borrow.Author.Rules.{rules}
-use mathlib.Core.Path.{◌≡◌, sym}
 use native.Mathlib.Omega.{arith}
+use borrow.Author.Rules.{rules}
+use mathlib.Core.Path.{◌≡◌}
 use lib.ListN.{length}
 use Rattle.format.specs.Format.{name_room}
-use Rattle.reply_writer.proofs.Names.{sent-in}
+use Rattle.reply_writer.proofs.Runs.{bytes-below}
 use Rattle.reply_writer.proofs.Firmware.{version-size}
 use Rattle.reply_writer.proofs.fw_version_len.Goals as goal
-
-pub overflow_add-result : goal.overflow_add-result
-overflow_add-result c =
-    let v = c.args.version in
-    let one : length v.hw_name ≡ name_room = search rules in
-    omega (arith, one, c.name_len.ensures.1)
-
-pub overflow_add-result-2 : goal.overflow_add-result-2
-overflow_add-result-2 c =
-    let v = c.args.version in
-    let one : length v.hw_name ≡ name_room = search rules in
-    let two : length v.fw_name ≡ name_room = search rules in
-    omega (arith, one, two, c.name_len.ensures.1, c.name_len-2.ensures.1)
 
 pub returns : goal.returns
 returns c =
     let v = c.args.version in
     let one : length v.hw_name ≡ name_room = search rules in
     let two : length v.fw_name ≡ name_room = search rules in
-    let uuid : length v.uuid ≡ 12 = search rules in
-    let first = c.name_len.ensures in
-    let second = c.name_len-2.ensures in (
-      omega (arith, version-size v (sym uuid), sent-in v.hw_name (sym one) first.0, sent-in v.fw_name (sym two) second.0),
-      omega (arith, one, two, first.1, second.1),
-    )
+    let first = rw one at c.name_len.ensures in
+    let second = rw two at c.name_len-2.ensures in
+    let size = version-size v (search rules) (bytes-below 12 v.uuid (search rules) (λ at. search rules)) (search rules) in
+    (omega arith, omega arith)

@@ -1,26 +1,51 @@
 -- `reply_writer::good_names` meets its contract, by the kind.
-use mathlib.Core.Path.{◌∙◌}
-use Rattle.reply.specs.declared.Kind.TheVariants as Kind
-use Rattle.reply_writer.proofs.Payloads.{names-as}
+use borrow.Author.Rules.{rules}
+use mathlib.Core.Path.{◌≡◌}
+use lib.ListN.{length}
+use Rattle.format.specs.Format.{name_room, hash_room}
+use Rattle.reply_writer.specs.Writer.{good_names}
 use Rattle.reply_writer.proofs.good_names.Goals as goal
 
-pub returns-in-FwVersion : goal.returns-in-FwVersion
-returns-in-FwVersion c = c.version_names.ensures ∙ names-as c.args.reply Kind.FwVersion c.in-FwVersion.is
+pub returns-then-is_name : goal.returns-then-is_name
+unfolding good_names
+returns-then-is_name c =
+    let v = c.args.reply.fw_version in
+    let one : length v.hw_name ≡ name_room = search rules in
+    let two : length v.fw_name ≡ name_room = search rules in
+    let first = rw one at c.is_name.ensures in
+    let second = rw two at c.is_name-then-is_name.ensures in
+    let holds = c.if-is_name.true in
+    rw (c.in-FwVersion.is, ← first, holds) second
+
+pub returns-else-is_name : goal.returns-else-is_name
+unfolding good_names
+returns-else-is_name c =
+    let v = c.args.reply.fw_version in
+    let one : length v.hw_name ≡ name_room = search rules in
+    let first = rw one at c.is_name.ensures in
+    let off = c.if-is_name.false in
+    rw (c.in-FwVersion.is, ← first, off)
+
+pub returns-then-is_name-2 : goal.returns-then-is_name-2
+unfolding good_names
+returns-then-is_name-2 c =
+    let v = c.args.reply.fw_info in
+    let one : length v.commit_hash ≡ hash_room = search rules in
+    let two : length v.user_commit_hash ≡ hash_room = search rules in
+    let first = rw one at c.is_name-in-FwInfo.ensures in
+    let second = rw two at c.is_name-then-is_name-2.ensures in
+    let holds = c.if-is_name-2.true in
+    rw (c.in-FwInfo.is, ← first, holds) second
+
+pub returns-else-is_name-2 : goal.returns-else-is_name-2
+unfolding good_names
+returns-else-is_name-2 c =
+    let v = c.args.reply.fw_info in
+    let one : length v.commit_hash ≡ hash_room = search rules in
+    let first = rw one at c.is_name-in-FwInfo.ensures in
+    let off = c.if-is_name-2.false in
+    rw (c.in-FwInfo.is, ← first, off)
 
 pub returns-in-GetValues : goal.returns-in-GetValues
-returns-in-GetValues c = names-as c.args.reply Kind.GetValues c.in-GetValues.is
-
-pub returns-in-GetValuesSelective : goal.returns-in-GetValuesSelective
-returns-in-GetValuesSelective c = names-as c.args.reply Kind.GetValuesSelective c.in-GetValuesSelective.is
-
-pub returns-in-GetValuesSetupSelective : goal.returns-in-GetValuesSetupSelective
-returns-in-GetValuesSetupSelective c = names-as c.args.reply Kind.GetValuesSetupSelective c.in-GetValuesSetupSelective.is
-
-pub returns-in-GetStats : goal.returns-in-GetStats
-returns-in-GetStats c = names-as c.args.reply Kind.GetStats c.in-GetStats.is
-
-pub returns-in-ResetStats : goal.returns-in-ResetStats
-returns-in-ResetStats c = names-as c.args.reply Kind.ResetStats c.in-ResetStats.is
-
-pub returns-in-FwInfo : goal.returns-in-FwInfo
-returns-in-FwInfo c = c.info_names.ensures ∙ names-as c.args.reply Kind.FwInfo c.in-FwInfo.is
+unfolding good_names
+returns-in-GetValues c = search rules

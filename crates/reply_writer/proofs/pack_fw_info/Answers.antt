@@ -1,26 +1,29 @@
 -- `reply_writer::pack_fw_info` meets its contract: the front and the names, one after the other.
 use borrow.Author.Rules.{rules}
-use mathlib.Core.Path.{◌≡◌, sym}
-use native.Mathlib.Omega.{arith}
-use lib.ListN.{length}
-use Rattle.format.specs.Format.{hash_room}
-use Rattle.reply_writer.proofs.Names.{sent-in}
-use Rattle.reply_writer.proofs.Firmware.{info-size, info-packed}
+use Rattle.raw_reply.specs.Laws.{InfoFits}
+use Rattle.reply_writer.proofs.Runs.{not-refused, room-left, then-packs}
+use Rattle.reply_writer.proofs.Firmware.{info-parts}
+use Rattle.reply_writer.proofs.Payloads.{room-as, packed-as}
 use Rattle.reply_writer.proofs.pack_fw_info.Goals as goal
 
-pub overflow_add-end-2 : goal.overflow_add-end-2
-overflow_add-end-2 c =
+pub returns-in_err-commit_at : goal.returns-in_err-commit_at
+returns-in_err-commit_at c =
     let v = c.args.info in
-    let long : length v.commit_hash ≡ hash_room = search rules in
-    omega (arith, c.requires, info-size v, sent-in v.commit_hash (sym long) c.name_len.ensures.0)
+    let fits : InfoFits v = search rules in
+    not-refused _ c.in_err-commit_at.ensures (room-as 2 (info-parts v fits.front) c.requires)
 
-pub pack_each-requires : goal.pack_each-requires
-pack_each-requires c = omega (arith, c.requires, info-size c.args.info)
+pub returns-in_err-user_at : goal.returns-in_err-user_at
+returns-in_err-user_at c =
+    let v = c.args.info in
+    let fits : InfoFits v = search rules in
+    let name = rw fits.commit at c.in_err-user_at.ensures in
+    not-refused _ name (room-left _ c.in_ok-commit_at.ensures (room-as 2 (info-parts v fits.front) c.requires))
 
 pub returns : goal.returns
 returns c =
     let v = c.args.info in
-    let long : length v.commit_hash ≡ hash_room = search rules in
-    let long2 : length v.user_commit_hash ≡ hash_room = search rules in
-    info-packed v c.requires c.pack_each.ensures (sym long) c.pack_name.ensures (sym long2)
-    (omega (arith, sent-in v.commit_hash (sym long) c.name_len.ensures.0)) c.pack_name-2.ensures
+    let fits : InfoFits v = search rules in
+    let room = room-as 2 (info-parts v fits.front) c.requires in
+    let first = rw fits.commit at c.in_ok-user_at.ensures in
+    let second = rw fits.user at c.pack_name-2.ensures in
+    packed-as (info-parts v fits.front) (then-packs _ c.in_ok-commit_at.ensures room (then-packs _ first (room-left _ c.in_ok-commit_at.ensures room) second))

@@ -1,13 +1,24 @@
 -- `reply_writer::write_reply` meets its contract: a law for each way out.
 use mathlib.Core.Path.{sym, ◌∙◌}
-use Rattle.reply_writer.proofs.Writing.{unknown-bits, bad-name}
+use Rattle.reply_writer.proofs.Writing.{unknown-bits, bad-name, too_small, wrapped}
 use Rattle.reply_writer.proofs.write_reply.Goals as goal
 
-pub write_good-requires : goal.write_good-requires
-write_good-requires c = (sym c.known_mask.ensures ∙ c.if-known_mask.true, sym c.good_names.ensures ∙ c.if-good_names.true)
+pub returns-then-not-known_mask : goal.returns-then-not-known_mask
+returns-then-not-known_mask c = unknown-bits _ _ (sym c.known_mask.ensures ∙ c.if-not-known_mask.true)
 
-pub returns-then-known_mask : goal.returns-then-known_mask
-returns-then-known_mask c = bad-name _ _ (sym c.known_mask.ensures ∙ c.if-known_mask.true) (sym c.good_names.ensures ∙ c.if-good_names.false)
+pub returns-then-not-good_names : goal.returns-then-not-good_names
+returns-then-not-good_names c =
+    bad-name _ _ (sym c.known_mask.ensures ∙ c.if-not-known_mask.false) (sym c.good_names.ensures ∙ c.if-not-good_names.true)
+
+pub returns-then-buf-len : goal.returns-then-buf-len
+returns-then-buf-len c =
+    let known = sym c.known_mask.ensures ∙ c.if-not-known_mask.false in
+    let good = sym c.good_names.ensures ∙ c.if-not-good_names.false in
+    too_small _ _ known good c.payload_len-len.ensures.0 c.if-buf-len.true
 
 pub returns : goal.returns
-returns c = unknown-bits _ _ (sym c.known_mask.ensures ∙ c.if-known_mask.false)
+returns c =
+    let known = sym c.known_mask.ensures ∙ c.if-not-known_mask.false in
+    let good = sym c.good_names.ensures ∙ c.if-not-good_names.false in
+    let len = c.payload_len-len.ensures in
+    wrapped _ _ known good len.0 len.1 c.if-buf-len.false c.pack_payload.ensures c.wrap.ensures
