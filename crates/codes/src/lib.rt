@@ -6,8 +6,9 @@ ghost use Rattle.std.specs.Prelude.{◌≡◌};
 ghost use Rattle.codes.specs.Codes.{fault_of, fault_number, hw_type_of, hw_type_number, qml_hw_of, qml_hw_number};
 
 // An error condition or hardware failure that a controller reports.
-#[derive(Clone, Copy, Debug, PartialEq, Eq)]
+#[derive(Clone, Copy, Debug, Default, PartialEq, Eq)]
 pub enum FaultCode {
+    #[default]
     None = 0,
     OverVoltage = 1,
     UnderVoltage = 2,

@@ -4,15 +4,17 @@
 // becomes a number for each row of its table, and back.
 #![tactic(auto)]
 
-ghost use Rattle.std.specs.Prelude.{◌≡◌, ◌%◌, ◌<◌};
+ghost use Rattle.std.specs.Prelude.{◌≡◌, ◌%◌};
 ghost use Rattle.packer.specs.Numbers.{signed_of};
 ghost use Rattle.tables.specs.Tables.{values_table, setup_table, stats_table};
 ghost use Rattle.tables.specs.Rows.{padded};
 ghost use Rattle.raw_telemetry.specs.Rows.{numbers_of};
 ghost use Rattle.raw_telemetry.specs.Records.{values_rows, setup_rows, stats_rows, raw_values_of, raw_setup_values_of, raw_stats_of, no_raw_values, no_raw_setup_values, no_raw_stats};
 
+use tables::one_byte;
+
 // What GetValues and GetValuesSelective carry, and the mask, whose bits are those of `ValuesMask`. GetValues carries no mask.
-#[derive(Clone, Copy)]
+#[derive(Clone, Copy, Debug, Default, PartialEq, Eq)]
 pub struct RawValues {
     pub mask: u32,
     pub temp_mosfet: i16,
@@ -42,7 +44,7 @@ pub struct RawValues {
 }
 
 // What GetValuesSetupSelective carries, and the mask, whose bits are those of `ValuesSetupMask`.
-#[derive(Clone, Copy)]
+#[derive(Clone, Copy, Debug, Default, PartialEq, Eq)]
 pub struct RawSetupValues {
     pub mask: u32,
     pub temp_mosfet: i16,
@@ -70,7 +72,7 @@ pub struct RawSetupValues {
 }
 
 // What GetStats carries, floats by their bits, and the mask, whose bits are those of `StatsMask`.
-#[derive(Clone, Copy)]
+#[derive(Clone, Copy, Debug, Default, PartialEq, Eq)]
 pub struct RawStats {
     pub mask: u32,
     pub speed_avg: u32,
@@ -93,51 +95,11 @@ fn half(raw: u32) -> i16
     packer::as_i16(raw) as i16
 }
 
-// b: the lowest byte.
-fn one_byte(raw: u32) -> u8
-    ensures { result ≡ raw % 256 }
-{
-    (raw % 256) as u8
-}
-
-// A cast in a literal would ask that the byte fits; here it is the function's own.
-fn wide(byte: u8) -> u32
-    ensures { (result ≡ byte) × (result < 256) }
-{
-    byte as u32
-}
-
 // The record of GetValues and GetValuesSelective with nothing in it.
 pub fn no_values() -> RawValues
     ensures { result ≡ no_raw_values }
 {
-    RawValues {
-        mask: 0,
-        temp_mosfet: 0,
-        temp_motor: 0,
-        avg_current_motor: 0,
-        avg_current_input: 0,
-        avg_current_d: 0,
-        avg_current_q: 0,
-        duty_cycle: 0,
-        rpm: 0,
-        voltage_in: 0,
-        amp_hours: 0,
-        amp_hours_charged: 0,
-        watt_hours: 0,
-        watt_hours_charged: 0,
-        tachometer: 0,
-        tachometer_abs: 0,
-        fault_code: 0,
-        pid_pos: 0,
-        controller_id: 0,
-        temp_mosfet1: 0,
-        temp_mosfet2: 0,
-        temp_mosfet3: 0,
-        avg_voltage_d: 0,
-        avg_voltage_q: 0,
-        status: 0,
-    }
+    RawValues::default()
 }
 
 // The record of a mask, and of the raw numbers that the walk over it read, a row of the table each.
@@ -193,15 +155,15 @@ pub fn values_numbers(values: RawValues) -> [u32; format::TABLE_ROWS]
         packer::as_u32(values.watt_hours_charged),
         packer::as_u32(values.tachometer),
         packer::as_u32(values.tachometer_abs),
-        wide(values.fault_code),
+        values.fault_code as u32,
         packer::as_u32(values.pid_pos),
-        wide(values.controller_id),
+        values.controller_id as u32,
         packer::as_u16(values.temp_mosfet1),
         packer::as_u16(values.temp_mosfet2),
         packer::as_u16(values.temp_mosfet3),
         packer::as_u32(values.avg_voltage_d),
         packer::as_u32(values.avg_voltage_q),
-        wide(values.status),
+        values.status as u32,
     ]
 }
 
@@ -209,31 +171,7 @@ pub fn values_numbers(values: RawValues) -> [u32; format::TABLE_ROWS]
 pub fn no_setup_values() -> RawSetupValues
     ensures { result ≡ no_raw_setup_values }
 {
-    RawSetupValues {
-        mask: 0,
-        temp_mosfet: 0,
-        temp_motor: 0,
-        avg_current_motor: 0,
-        avg_current_input: 0,
-        duty_cycle: 0,
-        rpm: 0,
-        speed: 0,
-        voltage_in: 0,
-        battery_level: 0,
-        amp_hours: 0,
-        amp_hours_charged: 0,
-        watt_hours: 0,
-        watt_hours_charged: 0,
-        distance: 0,
-        distance_abs: 0,
-        pid_pos: 0,
-        fault_code: 0,
-        controller_id: 0,
-        num_vescs: 0,
-        watt_hours_battery_left: 0,
-        odometer: 0,
-        uptime_ms: 0,
-    }
+    RawSetupValues::default()
 }
 
 // The record of a mask, and of the raw numbers that the walk over it read, a row of the table each.
@@ -288,9 +226,9 @@ pub fn setup_values_numbers(values: RawSetupValues) -> [u32; format::TABLE_ROWS]
         packer::as_u32(values.distance),
         packer::as_u32(values.distance_abs),
         packer::as_u32(values.pid_pos),
-        wide(values.fault_code),
-        wide(values.controller_id),
-        wide(values.num_vescs),
+        values.fault_code as u32,
+        values.controller_id as u32,
+        values.num_vescs as u32,
         packer::as_u32(values.watt_hours_battery_left),
         values.odometer,
         values.uptime_ms,
@@ -303,20 +241,7 @@ pub fn setup_values_numbers(values: RawSetupValues) -> [u32; format::TABLE_ROWS]
 pub fn no_stats() -> RawStats
     ensures { result ≡ no_raw_stats }
 {
-    RawStats {
-        mask: 0,
-        speed_avg: 0,
-        speed_max: 0,
-        power_avg: 0,
-        power_max: 0,
-        current_avg: 0,
-        current_max: 0,
-        temp_mosfet_avg: 0,
-        temp_mosfet_max: 0,
-        temp_motor_avg: 0,
-        temp_motor_max: 0,
-        count_time: 0,
-    }
+    RawStats::default()
 }
 
 // The record of a mask, and of the raw numbers that the walk over it read, a row of the table each.

@@ -4,7 +4,7 @@
 // seen that a good frame has every byte. Document 02, W4, has them written by the same tables.
 #![tactic(auto)]
 
-ghost use Rattle.std.specs.Prelude.{true, ◌↔◌, ◌≡◌, ◌<◌, ◌≤◌, drop, get_or};
+ghost use Rattle.std.specs.Prelude.{true, ◌↔◌, ◌≡◌, ◌%◌, ◌<◌, ◌≤◌, drop, get_or};
 ghost use Rattle.packer.specs.Numbers.{be_at, total, numbers_at, digits};
 ghost use Rattle.packer.specs.Packing.{PackIs};
 ghost use Rattle.tables.specs.Tables.{Field, takes, widths};
@@ -198,6 +198,13 @@ pub fn unpack_fields(buf: &[u8], pos: usize, sort: Sort, mask: u32) -> [u32; for
         at += width;
     }
     raw
+}
+
+// The byte that a raw number of one byte is.
+pub fn one_byte(raw: u32) -> u8
+    ensures { result ≡ raw % 256 }
+{
+    (raw % 256) as u8
 }
 
 // Writes at `pos` the fields of a masked reply that a mask has, in the table's order, from their raw

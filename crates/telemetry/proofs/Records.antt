@@ -14,7 +14,6 @@ use Rattle.tables.specs.Tables.{Coding, h, w, i, u, b, fault_byte, F, Field, fie
 use Rattle.tables.specs.Sorts.{table_of}
 use Rattle.tables.proofs.Widths.{raw-absent}
 use Rattle.tables.specs.declared.Sort.{Sort}
-use Rattle.tables.specs.declared.Sort.TheVariants as Sort
 use Rattle.codes.specs.Codes.{fault_of}
 use Rattle.telemetry.specs.Telemetry.{FieldValue, float, value_by, entry, field_at, values_with, values_of, setup_values_with, setup_values_of, stats_of}
 use Rattle.telemetry.specs.Records.{record_of, empty_record, ByTable, field_in, Zero, RecordHolds, TelemetryRecords}

@@ -6,7 +6,6 @@ use Rattle.packer.specs.Numbers.{numbers_at}
 use Rattle.tables.specs.Tables.{has_bit, widths}
 use Rattle.tables.specs.Sorts.{table_of}
 use Rattle.tables.specs.declared.Sort.{Sort}
-use Rattle.tables.specs.declared.Sort.TheVariants as Sort
 use Rattle.telemetry.specs.Telemetry as Telemetry
 use Rattle.telemetry.specs.Telemetry.{FieldValue, float, signed, unsigned, fault, entry, field_at, values_of, setup_values_of, stats_of, no_values, no_setup_values, no_stats}
 use Rattle.telemetry.specs.declared.Values.{Values}

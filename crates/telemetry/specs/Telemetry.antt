@@ -8,7 +8,6 @@ use Rattle.packer.specs.Numbers.{signed_of}
 use Rattle.tables.specs.Tables.{Coding, h, w, i, u, b, fault_byte, F, Field, field, values_table, setup_table, stats_table}
 use Rattle.codes.specs.Codes.{fault_of}
 use Rattle.codes.specs.declared.FaultCode.{FaultCode}
-use Rattle.codes.specs.declared.FaultCode.TheVariants as FaultCode
 use Rattle.telemetry.specs.declared.Values.{Values}
 use Rattle.telemetry.specs.declared.SetupValues.{SetupValues}
 use Rattle.telemetry.specs.declared.Stats.{Stats}

@@ -4,17 +4,18 @@
 // Rust's does not: it tells a zero that was sent from a field that was not.
 #![tactic(auto)]
 
-ghost use Rattle.std.specs.Prelude.{true, [], ◌↔◌, ◌≡◌, ◌%◌};
+ghost use Rattle.std.specs.Prelude.{true, ◌↔◌, ◌≡◌, ◌%◌};
 ghost use Rattle.floats.specs.Numbers.{over_scale};
 ghost use Rattle.packer.specs.Numbers.{signed_of};
 ghost use Rattle.tables.specs.Bits.{HasBits};
-ghost use Rattle.telemetry.specs.Telemetry.{no_values, no_setup_values, no_stats, values_with, values_of, setup_values_with, setup_values_of, stats_of};
+ghost use Rattle.telemetry.specs.Telemetry.{no_values, no_setup_values, no_stats, values_of, setup_values_of, stats_of};
 
 use codes::FaultCode;
+use tables::one_byte;
 
 // The telemetry of GetValues and GetValuesSelective, and the mask as received, unknown bits too. GetValues, which
 // sends no mask, has all 22 bits.
-#[derive(Clone, Copy)]
+#[derive(Clone, Copy, Debug, Default)]
 pub struct Values {
     pub mask: u32,
     pub temp_mosfet: f32,
@@ -44,7 +45,7 @@ pub struct Values {
 }
 
 // The telemetry of GetValuesSetupSelective, and the mask as received.
-#[derive(Clone, Copy)]
+#[derive(Clone, Copy, Debug, Default)]
 pub struct SetupValues {
     pub mask: u32,
     pub temp_mosfet: f32,
@@ -72,7 +73,7 @@ pub struct SetupValues {
 }
 
 // The statistics of GetStats, and the mask as received: 32 bits, where the query's has 16.
-#[derive(Clone, Copy)]
+#[derive(Clone, Copy, Debug, Default)]
 pub struct Stats {
     pub mask: u32,
     pub speed_avg: f32,
@@ -129,190 +130,104 @@ fn word_over(raw: u32, scale: f32) -> f32
     floats::scaled(packer::as_i32(raw), scale)
 }
 
-// b: a byte.
-fn one_byte(raw: u32) -> u8
-    ensures { result ≡ raw % 256 }
-{
-    (raw % 256) as u8
-}
-
-// Zeros but for the mask and the fault code: an enum field is not stored to, so a record is begun with it.
-fn values_begun(mask: u32, fault: FaultCode) -> Values
-    ensures { result ≡ values_with mask fault [] }
-{
-    Values {
-        mask,
-        temp_mosfet: 0.0,
-        temp_motor: 0.0,
-        avg_current_motor: 0.0,
-        avg_current_input: 0.0,
-        avg_current_d: 0.0,
-        avg_current_q: 0.0,
-        duty_cycle: 0.0,
-        rpm: 0.0,
-        voltage_in: 0.0,
-        amp_hours: 0.0,
-        amp_hours_charged: 0.0,
-        watt_hours: 0.0,
-        watt_hours_charged: 0.0,
-        tachometer: 0,
-        tachometer_abs: 0,
-        fault_code: fault,
-        pid_pos: 0.0,
-        controller_id: 0,
-        temp_mosfet1: 0.0,
-        temp_mosfet2: 0.0,
-        temp_mosfet3: 0.0,
-        avg_voltage_d: 0.0,
-        avg_voltage_q: 0.0,
-        status: 0,
-    }
-}
-
 pub fn no_values() -> Values
     ensures { result ≡ no_values }
 {
-    values_begun(0, FaultCode::None)
+    Values::default()
 }
 
 // The record of a mask, and of the raw numbers that the walk over it read, a row of the table each.
 pub fn values_of(mask: u32, raw: [u32; format::TABLE_ROWS]) -> Values
     ensures { result ≡ values_of mask raw }
 {
-    let mut values = values_begun(mask, codes::fault_code(one_byte(raw[15])));
-    values.temp_mosfet = half_over(raw[0], 10.0);
-    values.temp_motor = half_over(raw[1], 10.0);
-    values.avg_current_motor = word_over(raw[2], 100.0);
-    values.avg_current_input = word_over(raw[3], 100.0);
-    values.avg_current_d = word_over(raw[4], 100.0);
-    values.avg_current_q = word_over(raw[5], 100.0);
-    values.duty_cycle = half_over(raw[6], 1000.0);
-    values.rpm = word_over(raw[7], 1.0);
-    values.voltage_in = half_over(raw[8], 10.0);
-    values.amp_hours = word_over(raw[9], 10000.0);
-    values.amp_hours_charged = word_over(raw[10], 10000.0);
-    values.watt_hours = word_over(raw[11], 10000.0);
-    values.watt_hours_charged = word_over(raw[12], 10000.0);
-    values.tachometer = packer::as_i32(raw[13]);
-    values.tachometer_abs = packer::as_i32(raw[14]);
-    values.pid_pos = word_over(raw[16], 1000000.0);
-    values.controller_id = one_byte(raw[17]);
-    values.temp_mosfet1 = half_over(raw[18], 10.0);
-    values.temp_mosfet2 = half_over(raw[19], 10.0);
-    values.temp_mosfet3 = half_over(raw[20], 10.0);
-    values.avg_voltage_d = word_over(raw[21], 1000.0);
-    values.avg_voltage_q = word_over(raw[22], 1000.0);
-    values.status = one_byte(raw[23]);
-    values
-}
-
-// Zeros but for the mask and the fault code, of GetValuesSetupSelective.
-fn setup_values_begun(mask: u32, fault: FaultCode) -> SetupValues
-    ensures { result ≡ setup_values_with mask fault [] }
-{
-    SetupValues {
+    Values {
         mask,
-        temp_mosfet: 0.0,
-        temp_motor: 0.0,
-        avg_current_motor: 0.0,
-        avg_current_input: 0.0,
-        duty_cycle: 0.0,
-        rpm: 0.0,
-        speed: 0.0,
-        voltage_in: 0.0,
-        battery_level: 0.0,
-        amp_hours: 0.0,
-        amp_hours_charged: 0.0,
-        watt_hours: 0.0,
-        watt_hours_charged: 0.0,
-        distance: 0.0,
-        distance_abs: 0.0,
-        pid_pos: 0.0,
-        fault_code: fault,
-        controller_id: 0,
-        num_vescs: 0,
-        watt_hours_battery_left: 0.0,
-        odometer: 0,
-        uptime_ms: 0,
+        temp_mosfet: half_over(raw[0], 10.0),
+        temp_motor: half_over(raw[1], 10.0),
+        avg_current_motor: word_over(raw[2], 100.0),
+        avg_current_input: word_over(raw[3], 100.0),
+        avg_current_d: word_over(raw[4], 100.0),
+        avg_current_q: word_over(raw[5], 100.0),
+        duty_cycle: half_over(raw[6], 1000.0),
+        rpm: word_over(raw[7], 1.0),
+        voltage_in: half_over(raw[8], 10.0),
+        amp_hours: word_over(raw[9], 10000.0),
+        amp_hours_charged: word_over(raw[10], 10000.0),
+        watt_hours: word_over(raw[11], 10000.0),
+        watt_hours_charged: word_over(raw[12], 10000.0),
+        tachometer: packer::as_i32(raw[13]),
+        tachometer_abs: packer::as_i32(raw[14]),
+        fault_code: FaultCode::from(one_byte(raw[15])),
+        pid_pos: word_over(raw[16], 1000000.0),
+        controller_id: one_byte(raw[17]),
+        temp_mosfet1: half_over(raw[18], 10.0),
+        temp_mosfet2: half_over(raw[19], 10.0),
+        temp_mosfet3: half_over(raw[20], 10.0),
+        avg_voltage_d: word_over(raw[21], 1000.0),
+        avg_voltage_q: word_over(raw[22], 1000.0),
+        status: one_byte(raw[23]),
     }
 }
 
 pub fn no_setup_values() -> SetupValues
     ensures { result ≡ no_setup_values }
 {
-    setup_values_begun(0, FaultCode::None)
+    SetupValues::default()
 }
 
 // The record of GetValuesSetupSelective.
 pub fn setup_values_of(mask: u32, raw: [u32; format::TABLE_ROWS]) -> SetupValues
     ensures { result ≡ setup_values_of mask raw }
 {
-    let mut values = setup_values_begun(mask, codes::fault_code(one_byte(raw[16])));
-    values.temp_mosfet = half_over(raw[0], 10.0);
-    values.temp_motor = half_over(raw[1], 10.0);
-    values.avg_current_motor = word_over(raw[2], 100.0);
-    values.avg_current_input = word_over(raw[3], 100.0);
-    values.duty_cycle = half_over(raw[4], 1000.0);
-    values.rpm = word_over(raw[5], 1.0);
-    values.speed = word_over(raw[6], 1000.0);
-    values.voltage_in = half_over(raw[7], 10.0);
-    values.battery_level = half_over(raw[8], 1000.0);
-    values.amp_hours = word_over(raw[9], 10000.0);
-    values.amp_hours_charged = word_over(raw[10], 10000.0);
-    values.watt_hours = word_over(raw[11], 10000.0);
-    values.watt_hours_charged = word_over(raw[12], 10000.0);
-    values.distance = word_over(raw[13], 1000.0);
-    values.distance_abs = word_over(raw[14], 1000.0);
-    values.pid_pos = word_over(raw[15], 1000000.0);
-    values.controller_id = one_byte(raw[17]);
-    values.num_vescs = one_byte(raw[18]);
-    values.watt_hours_battery_left = word_over(raw[19], 1000.0);
-    values.odometer = raw[20];
-    values.uptime_ms = raw[21];
-    values
-}
-
-// Zeros but for the mask.
-fn stats_begun(mask: u32) -> Stats
-    ensures { result ≡ stats_of mask [] }
-{
-    Stats {
+    SetupValues {
         mask,
-        speed_avg: 0.0,
-        speed_max: 0.0,
-        power_avg: 0.0,
-        power_max: 0.0,
-        current_avg: 0.0,
-        current_max: 0.0,
-        temp_mosfet_avg: 0.0,
-        temp_mosfet_max: 0.0,
-        temp_motor_avg: 0.0,
-        temp_motor_max: 0.0,
-        count_time: 0.0,
+        temp_mosfet: half_over(raw[0], 10.0),
+        temp_motor: half_over(raw[1], 10.0),
+        avg_current_motor: word_over(raw[2], 100.0),
+        avg_current_input: word_over(raw[3], 100.0),
+        duty_cycle: half_over(raw[4], 1000.0),
+        rpm: word_over(raw[5], 1.0),
+        speed: word_over(raw[6], 1000.0),
+        voltage_in: half_over(raw[7], 10.0),
+        battery_level: half_over(raw[8], 1000.0),
+        amp_hours: word_over(raw[9], 10000.0),
+        amp_hours_charged: word_over(raw[10], 10000.0),
+        watt_hours: word_over(raw[11], 10000.0),
+        watt_hours_charged: word_over(raw[12], 10000.0),
+        distance: word_over(raw[13], 1000.0),
+        distance_abs: word_over(raw[14], 1000.0),
+        pid_pos: word_over(raw[15], 1000000.0),
+        fault_code: FaultCode::from(one_byte(raw[16])),
+        controller_id: one_byte(raw[17]),
+        num_vescs: one_byte(raw[18]),
+        watt_hours_battery_left: word_over(raw[19], 1000.0),
+        odometer: raw[20],
+        uptime_ms: raw[21],
     }
 }
 
 pub fn no_stats() -> Stats
     ensures { result ≡ no_stats }
 {
-    stats_begun(0)
+    Stats::default()
 }
 
 // The record of GetStats. A float (F) is sent by its bits.
 pub fn stats_of(mask: u32, raw: [u32; format::TABLE_ROWS]) -> Stats
     ensures { result ≡ stats_of mask raw }
 {
-    let mut stats = stats_begun(mask);
-    stats.speed_avg = floats::f32_from_bits(raw[0]);
-    stats.speed_max = floats::f32_from_bits(raw[1]);
-    stats.power_avg = floats::f32_from_bits(raw[2]);
-    stats.power_max = floats::f32_from_bits(raw[3]);
-    stats.current_avg = floats::f32_from_bits(raw[4]);
-    stats.current_max = floats::f32_from_bits(raw[5]);
-    stats.temp_mosfet_avg = floats::f32_from_bits(raw[6]);
-    stats.temp_mosfet_max = floats::f32_from_bits(raw[7]);
-    stats.temp_motor_avg = floats::f32_from_bits(raw[8]);
-    stats.temp_motor_max = floats::f32_from_bits(raw[9]);
-    stats.count_time = floats::f32_from_bits(raw[10]);
-    stats
+    Stats {
+        mask,
+        speed_avg: floats::f32_from_bits(raw[0]),
+        speed_max: floats::f32_from_bits(raw[1]),
+        power_avg: floats::f32_from_bits(raw[2]),
+        power_max: floats::f32_from_bits(raw[3]),
+        current_avg: floats::f32_from_bits(raw[4]),
+        current_max: floats::f32_from_bits(raw[5]),
+        temp_mosfet_avg: floats::f32_from_bits(raw[6]),
+        temp_mosfet_max: floats::f32_from_bits(raw[7]),
+        temp_motor_avg: floats::f32_from_bits(raw[8]),
+        temp_motor_max: floats::f32_from_bits(raw[9]),
+        count_time: floats::f32_from_bits(raw[10]),
+    }
 }

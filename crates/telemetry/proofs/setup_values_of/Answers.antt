@@ -1,9 +1,8 @@
--- `telemetry::setup_values_of` meets its contract: each field is what its own store left.
+-- `telemetry::setup_values_of` meets its contract: each field is its row's number, read.
 use mathlib.Core.Path.{ap, ◌∙◌}
 use lib.Ieee.{of_int, of_bits}
 use lib.ListN.{get_or}
 use Rattle.codes.specs.Codes.{fault_of}
-use Rattle.telemetry.specs.declared.SetupValues.{SetupValues}
 use Rattle.telemetry.specs.Telemetry.{setup_values_with, setup_values_of}
 use Rattle.telemetry.proofs.setup_values_of.Goals as goal
 
@@ -13,7 +12,7 @@ returns c =
     let raw = c.args.raw in
     λ i.
     record {
-      mask = ap (λ (v : SetupValues). v.mask) c.setup_values_begun-values.ensures i;
+      mask = c.args.mask;
       temp_mosfet = c.half_over.ensures i;
       temp_motor = c.half_over-2.ensures i;
       avg_current_motor = c.word_over.ensures i;
@@ -30,7 +29,7 @@ returns c =
       distance = c.word_over-9.ensures i;
       distance_abs = c.word_over-10.ensures i;
       pid_pos = c.word_over-11.ensures i;
-      fault_code = (ap (λ (v : SetupValues). v.fault_code) c.setup_values_begun-values.ensures ∙ c.fault_code.ensures ∙ ap fault_of c.one_byte.ensures) i;
+      fault_code = (c.from.ensures ∙ ap fault_of c.one_byte.ensures) i;
       controller_id = c.one_byte-2.ensures i;
       num_vescs = c.one_byte-3.ensures i;
       watt_hours_battery_left = c.word_over-12.ensures i;

@@ -1,6 +1,4 @@
--- `telemetry::stats_of` meets its contract: each field is what its own store left.
-use mathlib.Core.Path.{ap}
-use Rattle.telemetry.specs.declared.Stats.{Stats}
+-- `telemetry::stats_of` meets its contract: each field is its row's number, read.
 use Rattle.telemetry.specs.Telemetry.{stats_of}
 use Rattle.telemetry.proofs.stats_of.Goals as goal
 
@@ -9,7 +7,7 @@ unfolding stats_of
 returns c =
     λ i.
     record {
-      mask = ap (λ (v : Stats). v.mask) c.stats_begun-stats.ensures i;
+      mask = c.args.mask;
       speed_avg = c.f32_from_bits.ensures i;
       speed_max = c.f32_from_bits-2.ensures i;
       power_avg = c.f32_from_bits-3.ensures i;

@@ -1,9 +1,8 @@
--- `telemetry::values_of` meets its contract: each field is what its own store left.
+-- `telemetry::values_of` meets its contract: each field is its row's number, read.
 use mathlib.Core.Path.{ap, ◌∙◌}
 use lib.Ieee.{of_int, of_bits}
 use Rattle.codes.specs.Codes.{fault_of}
 use Rattle.packer.proofs.Complement.{called-i32}
-use Rattle.telemetry.specs.declared.Values.{Values}
 use Rattle.telemetry.specs.Telemetry.{values_with, values_of}
 use Rattle.telemetry.proofs.values_of.Goals as goal
 
@@ -12,7 +11,7 @@ unfolding values_with values_of of_int of_bits
 returns c =
     λ i.
     record {
-      mask = ap (λ (v : Values). v.mask) c.values_begun-values.ensures i;
+      mask = c.args.mask;
       temp_mosfet = c.half_over.ensures i;
       temp_motor = c.half_over-2.ensures i;
       avg_current_motor = c.word_over.ensures i;
@@ -28,7 +27,7 @@ returns c =
       watt_hours_charged = c.word_over-9.ensures i;
       tachometer = called-i32 _ _ c.as_i32.type_inv c.as_i32.ensures i;
       tachometer_abs = called-i32 _ _ c.as_i32-2.type_inv c.as_i32-2.ensures i;
-      fault_code = (ap (λ (v : Values). v.fault_code) c.values_begun-values.ensures ∙ c.fault_code.ensures ∙ ap fault_of c.one_byte.ensures) i;
+      fault_code = (c.from.ensures ∙ ap fault_of c.one_byte.ensures) i;
       pid_pos = c.word_over-10.ensures i;
       controller_id = c.one_byte-2.ensures i;
       temp_mosfet1 = c.half_over-5.ensures i;
