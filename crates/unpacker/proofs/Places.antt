@@ -1,26 +1,19 @@
--- Where a read leaves the position.
-use mathlib.Core.Path.{◌≡◌, ◌∙◌, sym, ap}
+-- Where a name that is refused leaves the position.
+use mathlib.Core.Path.{◌≡◌, refl, sym, ap}
 use mathlib.Core.Bool.{Bool, true, false, cond}
 use mathlib.Core.List.{List, [], ◌∷◌}
-use Prim.Native.Nat.{ℕ, zero, suc, ◌+◌, ◌-◌, ◌≤◌, ◌<◌}
+use Prim.Native.Nat.{ℕ, zero, suc, ◌+◌, ◌-◌, ◌≤◌, max}
 use native.Mathlib.Omega.{arith}
 use lib.Dec.{eqb}
 use lib.ListN.{length, drop, length-drop}
-use borrow.Author.Tests.{eq-eqb, ne_eqb, lt-ltb, le-ltb}
+use borrow.Author.Tests.{ne_eqb}
 use Rattle.refusals.specs.Refusals.{Refusal, Answer, ok, refused, decode_refusal, incomplete_data}
 use Rattle.refusals.specs.declared.DecodeError.{DecodeError}
+use Rattle.refusals.specs.declared.DecodeError.TheVariants.{IncompleteData, InvalidFrame, UnknownPacket, ChecksumMismatch}
+use Rattle.std.proofs.lemmas.Bool.Decides.{nat_tests}
 use Rattle.refusals.proofs.Different.{none}
-use Rattle.refusals.specs.declared.Consumed.{Consumed}
-use Rattle.refusals.specs.declared.Consumed.TheVariants.{To, Refused}
-use Rattle.names.specs.Names.{Name, nul_within, name_at}
-use Rattle.refusals.specs.Refusals.{consumed}
-use Rattle.unpacker.specs.Unpacker.{Read, number, place_after, name_end, name_read}
-
--- a number's answer, and the place that follows from it, are the number's read
-pub number_read
-    : {A : Type 0} {answer answered : Answer (A × ℕ)} {place : ℕ} (pos : ℕ) → answer ≡ answered → place ≡ place_after answer pos
-    → ◌≡◌ {A = Read (Answer (A × ℕ))} (record { answer = answer; place = place }) (number answered pos)
-number_read pos e f = λ i. record { answer = e i; place = (f ∙ ap (λ (a : Answer _). place_after a pos) e) i }
+use Rattle.names.specs.Names.{nul_within, name_at}
+use Rattle.unpacker.specs.Unpacker.{name_end}
 
 -- a choice between a place and an answer that is refused is refused by the answer
 picked : (b : Bool) (next : ℕ) (on : Answer ℕ) (why : Refusal) → cond b (ok next) on ≡ refused why → on ≡ refused why
@@ -36,33 +29,24 @@ room-seen (suc room) (byte ∷ left) place why e other =
     let seen = room-seen room left (place + 1) why (picked (eqb byte 0) (place + 1) _ why e) other in
     omega arith
 
-module _ (room : ℕ) (s : List ℕ) (pos : ℕ) where
-  -- a name that is found ends after its NUL
-  pub name-ends-after : {scan : Consumed} {next : ℕ} → scan ≡ To next → next ≡ name_end room s pos (consumed scan)
+-- the error whose number is 1
+one-is : (error : DecodeError) → (decode_refusal error).number ≡ 1 → error ≡ IncompleteData
+one-is IncompleteData e = refl
+one-is InvalidFrame e = absurd (omega arith)
+one-is (UnknownPacket id) e = absurd (omega arith)
+one-is (ChecksumMismatch expected actual) e = absurd (omega arith)
+
+-- a name that is refused as an error
+module _ (room : ℕ) (s : List ℕ) (pos : ℕ) (error : DecodeError) (told : refused (decode_refusal error) ≡ (name_at room s pos).answer) where
+  pub name-room : (error ≡ IncompleteData → ⊥) → room ≤ length s - pos
+  unfolding name_at
+  name-room other = simp length-drop at (room-seen room (drop pos s) pos (decode_refusal error) (sym told) (λ one. other (one-is error one)))
+
+  pub ends-after-room : (error ≡ IncompleteData → ⊥) → pos + room ≡ name_end room s pos (refused (decode_refusal error))
   unfolding name_end
-  name-ends-after found = rw found
+  ends-after-room other = rw (ne_eqb (decode_refusal error).number 1 (λ one. other (one-is error one)))
 
-  -- a name, and the place that follows from its scan, are the name's read
-  pub name-read
-      : {answer : Name} {place : ℕ} → answer ≡ name_at room s pos → place ≡ name_end room s pos answer.answer
-      → ◌≡◌ {A = Read Name} (record { answer = answer; place = place }) (name_read room s pos)
-  name-read e f = λ i. record { answer = e i; place = (f ∙ ap (λ (n : Name). name_end room s pos n.answer) e) i }
-
-  -- a name that is refused as e, of the number n
-  module _ {scan : Consumed} {e : DecodeError} {n : ℕ} (told : scan ≡ Refused e) (is : n ≡ (decode_refusal e).number) where
-    pub name-room : consumed scan ≡ (name_at room s pos).answer → (n ≡ 1 → ⊥) → room ≤ length s - pos
-    unfolding name_at
-    name-room answer other =
-        simp length-drop at (room-seen room (drop pos s) pos (decode_refusal e) (sym answer ∙ ap consumed told) (λ z. other (is ∙ z)))
-
-    pub ends-after-room : (n ≡ 1 → ⊥) → pos + room ≡ name_end room s pos (consumed scan)
-    unfolding name_end
-    ends-after-room other = rw (told, ← is, ne_eqb n 1 other)
-
-    pub ends-at-end : n ≡ 1 → pos < length s → length s ≡ name_end room s pos (consumed scan)
-    unfolding name_end
-    ends-at-end one inside = rw (told, ← is, eq-eqb n 1 one, lt-ltb pos (length s) inside)
-
-    pub ends-past-end : n ≡ 1 → length s ≤ pos → pos ≡ name_end room s pos (consumed scan)
-    unfolding name_end
-    ends-past-end one past = rw (told, ← is, eq-eqb n 1 one, le-ltb pos (length s) past)
+-- one that is refused for want of bytes
+pub ends-at-end : (room : ℕ) (s : List ℕ) (pos : ℕ) → max pos (length s) ≡ name_end room s pos (refused incomplete_data)
+unfolding name_end
+ends-at-end room s pos = grind (arith, nat_tests)

@@ -1,29 +1,42 @@
--- What a step and a method answer is the only answer, and what the Unpacker then is the only one.
-use mathlib.Core.Path.{sym, ap, ◌∙◌}
+-- What a method answers is the only answer, and what the Unpacker then is the only one.
+use mathlib.Core.Path.{◌≡◌, refl, sym, ap, ◌∙◌}
 use mathlib.Core.List.{List}
 use Prim.Native.Nat.{ℕ}
+use Rattle.std.specs.Prelude.{Result, Ok, Err}
 use Rattle.refusals.specs.OneAnswer.{ToldApart, OnlyBoth}
-use Rattle.packer.specs.Unpacking.{unpacked_u8, unpacked_u32, unpacked_f32}
-use Rattle.packer.proofs.Unique as packer
-use Rattle.names.specs.Names.{named39}
+use Rattle.refusals.specs.declared.DecodeError.{DecodeError}
+use Rattle.refusals.specs.Refusals.{consumed}
+use Rattle.refusals.proofs.Unique.{consumed-unique}
+use Rattle.names.specs.Names.{named}
 use Rattle.names.proofs.Unique as names
-use Rattle.unpacker.specs.Unpacker.{Read, unsigned_read, scaled_read, name_read, ReadIs}
+use Rattle.unpacker.specs.Unpacker.{Read, placed, unsigned_read, scaled_read, name_read, ReadIs}
 use Rattle.unpacker.specs.OneAnswer.{OneAnswer}
 use Rattle.unpacker.specs.declared.Unpacker.{Unpacker}
 
+-- what was returned, without the place
+value_of : {A : Type 0} → Result (A × ℕ) DecodeError → Result A DecodeError
+value_of (Ok (value, place)) = Ok value
+value_of (Err error) = Err error
+
+value-placed : {A : Type 0} (answer : Result A DecodeError) (place : ℕ) → value_of (placed answer place) ≡ answer
+unfolding value_of
+value-placed (Ok value) place = refl
+value-placed (Err error) place = refl
+
 -- where the map of the answers tells them apart, a read leaves one answer and one Unpacker
-read-unique : {S X : Type 0} (answers : S → X) → ToldApart answers → (read : List ℕ → ℕ → Read X) (u : Unpacker) → OnlyBoth (λ a v. ReadIs read u (answers a) v)
-read-unique answers told read u a b v w x y = (told a b (x.answers ∙ sym y.answers), x.leaves ∙ sym y.leaves)
+read-unique
+    : {A X : Type 0} (answers : Result (A × ℕ) DecodeError → X) → ToldApart answers → (read : List ℕ → ℕ → Read X) (u : Unpacker)
+    → OnlyBoth (λ (a : Result A DecodeError) (v : Unpacker). ReadIs read u (answers (placed a v.pos)) v)
+read-unique answers told read u a b v w x y = (
+  sym (value-placed a v.pos) ∙ ap value_of (told (placed a v.pos) (placed b w.pos) (x.answers ∙ sym y.answers)) ∙ value-placed b w.pos,
+  x.leaves ∙ sym y.leaves,
+)
 
 pub one_answer : OneAnswer
 one_answer =
     record {
-      step-u8 = λ a b e. λ i. record { answer = (packer.one_answer).u8 a.answer b.answer (ap (λ (r : Read _). r.answer) e) i; pos = ap (λ (r : Read _). r.place) e i };
-      step-u32 = λ a b e. λ i. record { answer = (packer.one_answer).u32 a.answer b.answer (ap (λ (r : Read _). r.answer) e) i; pos = ap (λ (r : Read _). r.place) e i };
-      step-f32 = λ a b e. λ i. record { answer = (packer.one_answer).f32 a.answer b.answer (ap (λ (r : Read _). r.answer) e) i; pos = ap (λ (r : Read _). r.place) e i };
-      step-c-string-39 = λ a b e. λ i. record { answer = (names.one_answer).name39 a.answer b.answer (ap (λ (r : Read _). r.answer) e) i; pos = ap (λ (r : Read _). r.place) e i };
-      unpack-u8 = read-unique unpacked_u8 (packer.one_answer).u8 (unsigned_read 1);
-      unpack-u32 = read-unique unpacked_u32 (packer.one_answer).u32 (unsigned_read 4);
-      unpack-f32 = λ scale. read-unique unpacked_f32 (packer.one_answer).f32 (scaled_read 4 scale);
-      unpack-c-string-39 = read-unique named39 (names.one_answer).name39 (name_read 39);
+      unpack-u8 = read-unique consumed consumed-unique (unsigned_read 1);
+      unpack-u32 = read-unique consumed consumed-unique (unsigned_read 4);
+      unpack-f32 = λ scale. read-unique consumed consumed-unique (scaled_read 4 scale);
+      unpack-c-string = λ room. read-unique (named room) ((names.one_answer).name room) (name_read room);
     }

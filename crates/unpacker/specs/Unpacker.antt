@@ -1,15 +1,12 @@
 -- The thin `Unpacker` of document 01, "Port order and change of shape": "Last, a thin `Unpacker` over the lent frame as in the Rust." What a read at its
 -- position answers, and where it leaves it: `consume` and `unpack_c_string` of src/packer.rs.
-use Rattle.std.specs.Prelude.{◌≡◌, cond, List, ℕ, ◌+◌, eqb, ltb, Float, length}
+use Rattle.std.specs.Prelude.{◌≡◌, cond, List, ℕ, ◌+◌, eqb, ltb, Float, length, Result, Ok, Err}
 use Rattle.std.specs.Borrow.{Bor}
 use Rattle.refusals.specs.Refusals.{Answer, ok, refused}
-use Rattle.packer.specs.Unpacking.{unsigned_at, scaled_at, unpacked_u8, unpacked_u32, unpacked_f32}
-use Rattle.names.specs.Names.{Name, name_at, named39}
+use Rattle.refusals.specs.declared.DecodeError.{DecodeError}
+use Rattle.packer.specs.Unpacking.{unsigned_at, scaled_at}
+use Rattle.names.specs.Names.{Name, name_at}
 use Rattle.unpacker.specs.declared.Unpacker.{Unpacker}
-use Rattle.unpacker.specs.declared.StepU8.{StepU8}
-use Rattle.unpacker.specs.declared.StepU32.{StepU32}
-use Rattle.unpacker.specs.declared.StepF32.{StepF32}
-use Rattle.unpacker.specs.declared.StepName39.{StepName39}
 
 -- a read at a position: what it answers, and where it leaves the position
 pub record Read (X : Type 0) : Type 0 where
@@ -43,19 +40,6 @@ name_end room s pos (refused why) = cond (eqb why.number 1) (cond (ltb pos (leng
 abbrev pub name_read : ℕ → List ℕ → ℕ → Read Name
 name_read room s pos = record { answer = name_at room s pos; place = name_end room s pos (name_at room s pos).answer }
 
--- the reads that the steps are
-abbrev pub step_u8 : StepU8 → Read (Answer (ℕ × ℕ))
-step_u8 s = record { answer = unpacked_u8 s.answer; place = s.pos }
-
-abbrev pub step_u32 : StepU32 → Read (Answer (ℕ × ℕ))
-step_u32 s = record { answer = unpacked_u32 s.answer; place = s.pos }
-
-abbrev pub step_f32 : StepF32 → Read (Answer (Float × ℕ))
-step_f32 s = record { answer = unpacked_f32 s.answer; place = s.pos }
-
-abbrev pub step_name39 : StepName39 → Read Name
-step_name39 s = record { answer = named39 s.answer; place = s.pos }
-
 -- `new`: the lent slice, at its start
 abbrev pub fresh : Bor (List ℕ) → Unpacker
 fresh buf = record { buf = buf; pos = 0 }
@@ -63,6 +47,11 @@ fresh buf = record { buf = buf; pos = 0 }
 -- the same slice, at another place
 abbrev pub moved : Unpacker → ℕ → Unpacker
 moved u place = record { buf = u.buf; pos = place }
+
+-- what a method returns, with the place after its read, where the Unpacker then stands
+abbrev pub placed : {A : Type 0} → Result A DecodeError → ℕ → Result (A × ℕ) DecodeError
+placed (Ok value) place = Ok (value, place)
+placed (Err error) place = Err error
 
 -- a read where the Unpacker u stands: what is answered, and what the Unpacker then is
 pub record ReadIs {X : Type 0} (read : List ℕ → ℕ → Read X) (u : Unpacker) (answer : X) (after : Unpacker) : Type 0 where
