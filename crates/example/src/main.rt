@@ -131,6 +131,7 @@ fn receive(rt: &impl Print, mut decoder: Decoder, piece: &[u8]) -> io::Result<De
         let fed = decoder.gateway_feed(rest);
         let count = taken(rt, fed.answer)?;
         decoder = ask(rt, fed.decoder)?;
+        // No more is taken than was offered, so the empty rest stands for no other case.
         rest = rest.get(count..).unwrap_or(&[]);
     }
     Ok(decoder)

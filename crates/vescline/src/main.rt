@@ -40,18 +40,14 @@ impl<'a, R: Runtime> Line<'a, R> {
     fn feed(&mut self, piece: &[u8]) -> Result<(), Failure> {
         let mut rest = piece;
         for _ in 0..piece.len() {
-            let GatewayFed { answer, decoder } = self.decoder.gateway_feed(rest);
-            self.decoder = decoder;
-            let count = answer?;
-            self.ask()?;
-            // Always so: no more is taken than was offered.
-            let Some(left) = rest.get(count..) else {
-                break;
-            };
-            if left.is_empty() {
+            if rest.is_empty() {
                 break;
             }
-            rest = left;
+            let GatewayFed { answer, decoder } = self.decoder.gateway_feed(rest);
+            self.decoder = decoder;
+            // No more is taken than was offered, so the empty rest stands for no other case.
+            rest = rest.get(answer?..).unwrap_or(&[]);
+            self.ask()?;
         }
         Ok(())
     }
