@@ -1,9 +1,10 @@
 -- What a name holds: what a copy to the front of zeros leaves.
 use mathlib.Core.Path.{◌≡◌}
 use mathlib.Core.List.{List, ◌++◌}
-use Prim.Native.Nat.{ℕ, zero, suc, ◌-◌}
+use Prim.Native.Nat.{ℕ, zero, suc, ◌-◌, ◌≤◌}
 use native.Mathlib.Omega.{arith}
-use lib.ListN.{length, take, drop, replicate}
+use lib.ListN.{length, take, drop, replicate, length-drop}
+use lib.Seq.{length-take-le}
 use Rattle.refusals.specs.Refusals.{Answer, ok}
 use Rattle.names.specs.Names.{nul_within, held_bytes, name_at}
 use Rattle.names.proofs.Places.{Ends}
@@ -23,7 +24,9 @@ name_of room bytes place answer held e h = rw (h, e)
 
 -- what a copy of the bytes from a place up to the next leaves of the zeros
 pub copied-held
-    : (room : ℕ) (bytes : List ℕ) (place next : ℕ) {zeros : List ℕ} → Ends room (length bytes) place next → zeros ≡ replicate room 0
-    → take (next - place) (drop place bytes) ++ drop (next - place) zeros ≡ held_bytes room (drop place bytes) place (ok next)
+    : (room : ℕ) (bytes : List ℕ) (place next : ℕ) → Ends room (length bytes) place next
+    → let part = take (next - place) (drop place bytes) in part ++ drop (length part) (replicate room 0) ≡ held_bytes room (drop place bytes) place (ok next)
 unfolding held_bytes
-copied-held room bytes place next ends e = rw (e, zeros-left room (next - place))
+copied-held room bytes place next ends =
+    let there : next - place ≤ length (drop place bytes) = simp length-drop (omega arith) in
+    rw (length-take-le (next - place) (drop place bytes) there, zeros-left room (next - place))

@@ -49,3 +49,7 @@ pub found-ends
     : (room : ℕ) (bytes : List ℕ) (place next : ℕ) {scan : Result ℕ DecodeError} → consumed scan ≡ nul_within room (drop place bytes) place → scan ≡ Ok next
     → Ends room (length bytes) place next
 found-ends room bytes place next answer found = given-ends room bytes place next (sym answer ∙ ap consumed found)
+
+-- the same as facts, for the tactics
+pub nul_ends : (room : ℕ) (bytes : List ℕ) (place next : ℕ) → ok next ≡ nul_within room (drop place bytes) place → (place < next) × (next ≤ place + room) × (next ≤ length bytes)
+nul_ends room bytes place next e = let ends = given-ends room bytes place next (sym e) in (ends.after, ends.roomy, ends.inside)

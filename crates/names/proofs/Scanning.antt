@@ -2,7 +2,7 @@
 use mathlib.Core.Bool.{Bool, true, false, cond, not, ◌&&◌}
 use mathlib.Core.Path.{◌≡◌, refl, sym, ap, ◌∙◌}
 use mathlib.Core.List.{List, [], ◌∷◌}
-use Prim.Native.Nat.{ℕ, zero, suc, ◌+◌, ◌-◌}
+use Prim.Native.Nat.{ℕ, zero, suc, ◌+◌, ◌-◌, ◌≤◌}
 use native.Mathlib.Nat.{add-zero}
 use native.Mathlib.Omega.{arith}
 use lib.Dec.{eqb, ltb}
@@ -21,6 +21,7 @@ use Rattle.std.proofs.lemmas.Bool.Decides.{nat_tests}
 use borrow.Author.Tests.{lt-ltb, le-ltb}
 use Rattle.refusals.specs.Refusals.{Answer, ok, refused, incomplete_data, invalid_frame, bad_name, consumed}
 use Rattle.refusals.specs.Answers.{unless}
+use Rattle.names.proofs.Places.{given-lies}
 use Rattle.names.specs.Names.{nul_within, all_zero, sent_through, sent_of, name_sent}
 
 -- the test of both scans
@@ -93,6 +94,16 @@ zeros-are (byte ∷ bytes) = ap (λ b. eqb byte 0 && b) (zeros-are bytes)
 pub found_ok : (scan : Result ℕ DecodeError) (next : ℕ) → Some next ≡ result_ok scan → scan ≡ Ok next
 found_ok (Ok place) next e = ap Ok (same_Some place next (sym e))
 found_ok (Err why) next e = absurd (none-some next (sym e))
+
+-- it ends among the bytes, after the first place
+pub found_ends
+    : (room : ℕ) (held : List ℕ) (scan : Result ℕ DecodeError) (next : ℕ) → consumed scan ≡ nul_within room held 0 → Some next ≡ result_ok scan
+    → (1 ≤ next) × (next ≤ length held)
+found_ends room held (Ok place) next scanned found =
+    let same : next ≡ place = same_Some next place found in
+    let ends = given-lies room held 0 place (sym scanned) in
+    (omega arith, omega arith)
+found_ends room held (Err why) next scanned found = absurd (none-some next (sym found))
 
 module _ (room : ℕ) (held : List ℕ) where
   -- a NUL, and zeros after it or another byte

@@ -22,6 +22,7 @@ pub fn find_nul(buf: &[u8], pos: usize, room: usize) -> Result<usize, DecodeErro
 }
 
 // The name at `pos`, of N bytes through its NUL and zeros after it, and the place after its NUL.
+#[tactic(auto, using(crate::proofs::Places::nul_ends))]
 pub fn unpack_c_string<const N: usize>(
     buf: &[u8],
     pos: usize,
@@ -29,14 +30,16 @@ pub fn unpack_c_string<const N: usize>(
     ensures { named N result ≡ name_at N buf.now pos }
 {
     let next = find_nul(buf, pos, N)?;
+    let name = &buf[pos..next];
     let mut bytes = [0; N];
-    bytes[..next - pos].copy_from_slice(&buf[pos..next]);
+    bytes[..name.len()].copy_from_slice(name);
     Ok((bytes, next))
 }
 
 // How many bytes of a name are sent, the NUL among them, document 02, W4; the Rust only reads names.
 // `held` is the whole room of the name. It is bad without a NUL, or with a byte other than zero
 // after the first one.
+#[tactic(auto, using(crate::proofs::Scanning::found_ends))]
 pub fn sent_len(held: &[u8]) -> Option<usize>
     ensures { name_sent result ≡ sent_of (length held.now) held.now }
 {

@@ -1,25 +1,14 @@
 -- `sent_len` meets its contract.
 use mathlib.Core.Path.{sym, ◌∙◌}
 use lib.ListN.{drop}
-use Rattle.std.proofs.Common.{rules, tests, arith}
+use Rattle.std.proofs.Common.{rules, tests}
 use Rattle.std.proofs.lemmas.Iterator.{YieldsList-from_slice}
 use Rattle.std.proofs.lemmas.Iterator.Search.{all_from_yields_List}
-use Rattle.names.proofs.Places.{found-ends}
-use Rattle.names.proofs.Scanning.{is_nul, zeros-are, rest-whole, found_ok, sent-is, none-sent}
+use Rattle.names.proofs.Scanning.{is_nul, zeros-are, rest-whole, sent-is, none-sent}
 use Rattle.names.proofs.sent_len.Goals as goal
 
 pub returns-in_err-next : goal.returns-in_err-next
 returns-in_err-next c = rw c.from_residual.ensures (sym (none-sent _ _ _ c.find_nul.ensures (sym c.ok.ensures.value ∙ c.in_err-next.was)))
-
-pub slice_bounds-iter-count : goal.slice_bounds-iter-count
-slice_bounds-iter-count c =
-    let ends = found-ends _ c.args.held.now 0 c.in_ok-next.next c.find_nul.ensures (found_ok _ _ c.in_ok-next.ensures.value) in
-    omega arith
-
-pub slice_bounds-iter-start : goal.slice_bounds-iter-start
-slice_bounds-iter-start c =
-    let ends = found-ends _ c.args.held.now 0 c.in_ok-next.next c.find_nul.ensures (found_ok _ _ c.in_ok-next.ensures.value) in
-    search rules
 
 pub returns : goal.returns
 returns c =

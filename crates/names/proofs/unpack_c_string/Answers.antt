@@ -1,6 +1,5 @@
 -- `unpack_c_string` meets its contract: a found place ends the part that is copied, and the copy leaves what the name holds.
 use mathlib.Core.Path.{refl, sym, ap, ◌∙◌}
-use native.Mathlib.Omega.{arith}
 use Rattle.std.proofs.lemmas.Result.{err_from_is_err_and}
 use Rattle.refusals.specs.Refusals.{consumed}
 use Rattle.names.specs.Names.{held_bytes}
@@ -15,31 +14,8 @@ returns-in_err-next g c =
     let refused = ap consumed (sym c.in_err-next.was) ∙ c.find_nul.ensures in
     rw (p.1, p.2) (name_of g.row.N c.args.buf.now c.args.pos _ _ refused refl)
 
-pub slice_bounds-copy_from_slice-count : goal.slice_bounds-copy_from_slice-count
-slice_bounds-copy_from_slice-count g c = let e = found-ends g.row.N c.args.buf.now c.args.pos c.in_ok-next.next c.find_nul.ensures c.in_ok-next.was in omega arith
-
-pub whole_as_front-copy_from_slice : goal.whole_as_front-copy_from_slice
-whole_as_front-copy_from_slice g c =
-    let e = found-ends g.row.N c.args.buf.now c.args.pos c.in_ok-next.next c.find_nul.ensures c.in_ok-next.was in
-    (omega arith, omega arith)
-
-pub slice_bounds-copy_from_slice-count-2 : goal.slice_bounds-copy_from_slice-count-2
-slice_bounds-copy_from_slice-count-2 g c =
-    let e = found-ends g.row.N c.args.buf.now c.args.pos c.in_ok-next.next c.find_nul.ensures c.in_ok-next.was in
-    omega arith
-
-pub slice_bounds-copy_from_slice-start : goal.slice_bounds-copy_from_slice-start
-slice_bounds-copy_from_slice-start g c =
-    let e = found-ends g.row.N c.args.buf.now c.args.pos c.in_ok-next.next c.find_nul.ensures c.in_ok-next.was in
-    omega arith
-
-pub slice_bounds-copy_from_slice-end : goal.slice_bounds-copy_from_slice-end
-slice_bounds-copy_from_slice-end g c =
-    let e = found-ends g.row.N c.args.buf.now c.args.pos c.in_ok-next.next c.find_nul.ensures c.in_ok-next.was in
-    omega arith
-
 pub returns : goal.returns
 returns g c =
-    let e = found-ends g.row.N c.args.buf.now c.args.pos c.in_ok-next.next c.find_nul.ensures c.in_ok-next.was in
+    let ends = found-ends g.row.N c.args.buf.now c.args.pos c.in_ok-next.next c.find_nul.ensures c.in_ok-next.was in
     name_of g.row.N c.args.buf.now c.args.pos _ _ (ap consumed (sym c.in_ok-next.was) ∙ c.find_nul.ensures)
-    (rw c.copy_from_slice.ensures.after (copied-held _ _ _ _ e refl))
+    (rw c.copy_from_slice.ensures.after (copied-held _ _ _ _ ends))

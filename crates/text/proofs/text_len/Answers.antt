@@ -7,11 +7,5 @@ use Rattle.text.proofs.text_len.Goals as goal
 pub returns-in_err-end : goal.returns-in_err-end
 returns-in_err-end c = rw c.from_residual.ensures (text-absent _ (none-refused _ _ c.find_nul.ensures (sym c.ok.ensures.value ∙ c.in_err-end.was)))
 
-pub overflow_sub-end : goal.overflow_sub-end
-overflow_sub-end c = (part-found _ _ c.find_nul.ensures (found_ok _ _ c.in_ok-end.ensures.value)).some
-
-pub slice_bounds-well_formed-end : goal.slice_bounds-well_formed-end
-slice_bounds-well_formed-end c = (part-found _ _ c.find_nul.ensures (found_ok _ _ c.in_ok-end.ensures.value)).size
-
 pub returns : goal.returns
 returns c = rw c.then_some.ensures (text-said _ _ _ (part-found _ _ c.find_nul.ensures (found_ok _ _ c.in_ok-end.ensures.value)) c.well_formed-2.ensures)
