@@ -53,7 +53,6 @@ pub fn well_formed(bytes: &[u8]) -> bool
 
 // How many bytes of a name are its text, if it has one. The Rust's `from_bytes_until_nul` and
 // `to_str`, one after the other.
-#[tactic(auto, using(names::proofs::Scanning::found_ends))]
 fn text_len(name: &[u8]) -> Option<usize>
     ensures { FoundText name.now result }
 {
