@@ -1,5 +1,5 @@
 -- `raw_telemetry::no_values` meets its contract: 0 is the zero of each kind, computed.
-use mathlib.Core.Path.{refl}
+use borrow.Author.Rules.{rules}
 use Rattle.packer.specs.Numbers.{signed_of}
 use Rattle.raw_telemetry.specs.Rows.{rows_from}
 use Rattle.raw_telemetry.specs.Records.{raw_values_of, no_raw_values}
@@ -7,4 +7,4 @@ use Rattle.raw_telemetry.proofs.no_values.Goals as goal
 
 pub returns : goal.returns
 unfolding no_raw_values raw_values_of rows_from signed_of
-returns c = refl
+returns c = search rules

@@ -27,9 +27,9 @@ returns c =
     ∷ sent_word v.distance (omega arith) c.as_u32-9.ensures i
     ∷ sent_word v.distance_abs (omega arith) c.as_u32-10.ensures i
     ∷ sent_word v.pid_pos (omega arith) c.as_u32-11.ensures i
-    ∷ c.wide.ensures.0 i
-    ∷ c.wide-2.ensures.0 i
-    ∷ c.wide-3.ensures.0 i
+    ∷ v.fault_code
+    ∷ v.controller_id
+    ∷ v.num_vescs
     ∷ sent_word v.watt_hours_battery_left (omega arith) c.as_u32-12.ensures i
     ∷ v.odometer
     ∷ v.uptime_ms

@@ -26,13 +26,13 @@ returns c =
     ∷ sent_word v.watt_hours_charged (omega arith) c.as_u32-9.ensures i
     ∷ sent_word v.tachometer (omega arith) c.as_u32-10.ensures i
     ∷ sent_word v.tachometer_abs (omega arith) c.as_u32-11.ensures i
-    ∷ c.wide.ensures.0 i
+    ∷ v.fault_code
     ∷ sent_word v.pid_pos (omega arith) c.as_u32-12.ensures i
-    ∷ c.wide-2.ensures.0 i
+    ∷ v.controller_id
     ∷ sent-half v.temp_mosfet1 (omega arith) c.as_u16-5.ensures i
     ∷ sent-half v.temp_mosfet2 (omega arith) c.as_u16-6.ensures i
     ∷ sent-half v.temp_mosfet3 (omega arith) c.as_u16-7.ensures i
     ∷ sent_word v.avg_voltage_d (omega arith) c.as_u32-13.ensures i
     ∷ sent_word v.avg_voltage_q (omega arith) c.as_u32-14.ensures i
-    ∷ c.wide-3.ensures.0 i
+    ∷ v.status
     ∷ []
