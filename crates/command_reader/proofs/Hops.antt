@@ -1,13 +1,13 @@
 -- Hops at the front of bytes: how many of them, what follows, and what a hop part of the form is.
 use mathlib.Core.Bool.{Bool, true, false, cond}
 use mathlib.Core.Logic.{◌↔◌}
-use mathlib.Core.Path.{◌≡◌, refl, ◌∙◌}
+use mathlib.Core.Path.{◌≡◌, refl}
 use mathlib.Core.List.{List, [], ◌∷◌, ◌++◌}
 use Prim.Native.Nat.{ℕ, suc, ◌+◌, ◌-◌, ◌≤◌, ◌<◌}
 use native.Mathlib.Omega.{arith}
 use lib.Dec.{eqb}
-use lib.ListN.{length, get_or, take, drop, length-drop}
-use lib.Seq.{drop-cons}
+use lib.ListN.{length, get_or, take, drop}
+use lib.Seq.{take_all}
 use borrow.Author.Tests.{eq-eqb, ne_eqb, eqb-true}
 use Rattle.encode.specs.Payload.{hop_bytes}
 use Rattle.command_reader.specs.Reader.{hop_size}
@@ -25,31 +25,33 @@ hops-within (first ∷ second ∷ rest) = go (eqb first 34) (hops-within rest)
     go true within = omega arith
     go false within = omega arith
 
--- ---- from a place on
+-- ---- the front of bytes
 
 -- fewer than two bytes are no hop
-pub no-pair : (bytes : List ℕ) (at : ℕ) → length bytes - at ≤ 1 → hop_size (drop at bytes) ≡ 0
+pub no-pair : (bytes : List ℕ) → length bytes < 2 → hop_size bytes ≡ 0
 unfolding hop_size
-no-pair bytes at few = go (drop at bytes) (simp length-drop few)
-  where
-    go : (rest : List ℕ) → length rest ≤ 1 → hop_size rest ≡ 0
-    go [] few = refl
-    go (one ∷ []) few = refl
-    go (one ∷ two ∷ rest) few = absurd (omega arith)
+no-pair [] few = refl
+no-pair (one ∷ []) few = refl
+no-pair (one ∷ two ∷ bytes) few = absurd (omega arith)
 
--- the two bytes at a place
-two-there : (bytes : List ℕ) (at : ℕ) → at + 1 < length bytes → drop at bytes ≡ get_or bytes at 0 ∷ get_or bytes (suc at) 0 ∷ drop (at + 2) bytes
-two-there bytes at there =
-    let on : at + 2 ≡ suc (suc at) = omega arith in
-    drop-cons bytes at 0 (omega arith) ∙ rw (drop-cons bytes (suc at) 0 (omega arith), on)
-
-pub no-hop : (bytes : List ℕ) (at : ℕ) → at + 1 < length bytes → (get_or bytes at 0 ≡ 34 → ⊥) → hop_size (drop at bytes) ≡ 0
+pub no-hop : (bytes : List ℕ) → 2 ≤ length bytes → (get_or bytes 0 0 ≡ 34 → ⊥) → hop_size bytes ≡ 0
 unfolding hop_size
-no-hop bytes at there other = rw (two-there bytes at there, ne_eqb (get_or bytes at 0) 34 other)
+no-hop [] there other = absurd (omega arith)
+no-hop (one ∷ []) there other = absurd (omega arith)
+no-hop (first ∷ second ∷ bytes) there other = rw (ne_eqb first 34 other)
 
-pub a-hop : (bytes : List ℕ) (at : ℕ) → at + 1 < length bytes → get_or bytes at 0 ≡ 34 → hop_size (drop at bytes) ≡ 2 + hop_size (drop (at + 2) bytes)
+-- a hop, and the part behind it as it is lent
+pub record HopFirst (bytes behind : List ℕ) : Type 0 where
+  pub size : hop_size bytes ≡ 2 + hop_size behind
+  pub shorter : length bytes ≡ 2 + length behind
+
+pub a-hop : (bytes : List ℕ) → 2 ≤ length bytes → get_or bytes 0 0 ≡ 34 → HopFirst bytes (take (length bytes - 2) (drop 2 bytes))
 unfolding hop_size
-a-hop bytes at there hop = rw (two-there bytes at there, eq-eqb (get_or bytes at 0) 34 hop)
+a-hop [] there hop = absurd (omega arith)
+a-hop (one ∷ []) there hop = absurd (omega arith)
+a-hop (first ∷ second ∷ bytes) there hop =
+    let all : take (length (first ∷ second ∷ bytes) - 2) bytes ≡ bytes = take_all (length (first ∷ second ∷ bytes) - 2) bytes (omega arith) in
+    rw all (record { size = rw (eq-eqb first 34 hop); shorter = omega arith })
 
 -- bytes that begin with something else
 pub other-front : (first : ℕ) (rest : List ℕ) → eqb first 34 ≡ false → hop_size (first ∷ rest) ≡ 0

@@ -7,6 +7,9 @@ use lib.ListN.{length, take, drop}
 use borrow.Author.Tests.{eqb-true}
 use Rattle.refusals.specs.Refusals.{ok, invalid_frame}
 use Rattle.refusals.proofs.Answers.{given-unless}
+use Rattle.std.specs.Prelude.{Result, Ok}
+use Rattle.refusals.specs.declared.EncodeError.{EncodeError}
+use Rattle.refusals.specs.declared.WriteBackError.{WriteBackError}
 use Rattle.packer.specs.Nearness.{Bytes}
 use Rattle.frame.specs.Frame.{short, frame_of, frame_size, declared, payload_in}
 use Rattle.frame.specs.Wrapping.{wrap_after}
@@ -20,15 +23,11 @@ use Rattle.command.specs.Commands.{raw_of}
 use Rattle.command.specs.declared.Command.{Command}
 use Rattle.encode.specs.Payload.{hop_bytes, payload_of}
 use Rattle.encode.specs.Encode.{EncodeIs, encoded}
-use Rattle.encode.specs.declared.Encoded.{Encoded}
-use Rattle.encode.specs.declared.Encoded.TheVariants as e
 use Rattle.encode.proofs.Exact as encode
 use Rattle.command_reader.specs.Reader.{hop_size, CommandFrame, read_of, hop_part_of, ReadIs}
 use Rattle.command_reader.specs.Writer.{is_hops, payload_back, write_answer, written_again, WriteIs}
 use Rattle.command_reader.specs.Laws.{ReadAs, CommandFits, ReaderLaws}
 use Rattle.command_reader.specs.declared.CommandRead.{CommandRead}
-use Rattle.command_reader.specs.declared.WrittenBack.{WrittenBack}
-use Rattle.command_reader.specs.declared.WrittenBack.TheVariants.{Written}
 use Rattle.command_reader.proofs.Hops.{front-form, bytes-form, hops-form}
 use Rattle.command_reader.proofs.Reading.{opened-at, read-given}
 use Rattle.command_reader.proofs.Parts.{part-of-payload, payload-is, frame_is, frame-read}
@@ -37,7 +36,7 @@ use Rattle.command_reader.proofs.Writing.{by-wrap}
 -- ---- what was written is read
 
 reads-encoded : (command : Command) (hops buffer after : List ℕ) (count : ℕ) → CommandFits (raw_of command)
-    → EncodeIs command hops buffer (e.Written count) after → ReadAs after count (hop_bytes hops) (plain_of (raw_of command))
+    → EncodeIs command hops buffer (Ok count) after → ReadAs after count (hop_bytes hops) (plain_of (raw_of command))
 unfolding payload_of
 reads-encoded command hops buffer after count fits w =
     let given = answer-given _ (length buffer) count (sym w.answer) in
@@ -51,7 +50,7 @@ record WritesFrame (hops : List ℕ) (command : RawCommand) (buffer after : List
   counted : count ≡ frame_size short (length (payload_back hops command))
   begins : after ≡ frame_of short (payload_back hops command) ++ drop count buffer
 
-writes-frame : (hops : List ℕ) (command : RawCommand) (buffer after : List ℕ) (count : ℕ) → WriteIs hops command buffer (Written count) after
+writes-frame : (hops : List ℕ) (command : RawCommand) (buffer after : List ℕ) (count : ℕ) → WriteIs hops command buffer (Ok count) after
     → WritesFrame hops command buffer after count
 unfolding write_answer
 writes-frame hops command buffer after count w =
@@ -61,7 +60,7 @@ writes-frame hops command buffer after count w =
     record { form = eqb-true _ _ formed.holds; small = given.0; counted = given.1; begins = w.holds ∙ rw (formed.holds, formed.then, size) }
 
 reads-written : (hops : List ℕ) (command : RawCommand) (buffer after : List ℕ) (count : ℕ) → CommandFits command
-    → WriteIs hops command buffer (Written count) after → ReadAs after count hops (plain_of command)
+    → WriteIs hops command buffer (Ok count) after → ReadAs after count hops (plain_of command)
 unfolding payload_back
 reads-written hops command buffer after count fits w =
     let written = writes-frame hops command buffer after count w in
@@ -70,8 +69,8 @@ reads-written hops command buffer after count fits w =
 
 -- ---- what was read is written
 
-writes-read : (s : List ℕ) → Bytes s → (r : CommandRead) (frame : CommandFrame) → ReadIs s r → read_of s ≡ ok frame
-    → (buffer after : List ℕ) (w : WrittenBack) → frame.count ≤ length buffer → WriteIs (hop_part_of s) r.command buffer w after
+writes-read : (s : List ℕ) → Bytes s → (r : CommandRead) (frame : CommandFrame) → ReadIs s (Ok r) → read_of s ≡ ok frame
+    → (buffer after : List ℕ) (w : Result ℕ WriteBackError) → frame.count ≤ length buffer → WriteIs (hop_part_of s) r.command buffer w after
     → (written_again w ≡ ok frame.count) × (after ≡ take frame.count s ++ drop frame.count buffer)
 unfolding payload_back
 writes-read s b r frame is read buffer after w room back =
@@ -91,7 +90,7 @@ writes-read s b r frame is read buffer after w room back =
 
 -- ---- `encode` is the writer
 
-encode-writes : (command : Command) (hops buffer after other : List ℕ) (r : Encoded) (w : WrittenBack)
+encode-writes : (command : Command) (hops buffer after other : List ℕ) (r : Result ℕ EncodeError) (w : Result ℕ WriteBackError)
     → EncodeIs command hops buffer r after → WriteIs (hop_bytes hops) (raw_of command) buffer w other
     → (encoded r ≡ written_again w) × (after ≡ other)
 unfolding payload_of payload_back wrap_after

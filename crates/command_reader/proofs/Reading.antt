@@ -5,8 +5,9 @@ use Prim.Native.Nat.{ℕ, ◌+◌, ◌-◌, ◌≤◌}
 use native.Mathlib.Omega.{arith}
 use lib.ListN.{length, take, drop, length-drop}
 use lib.Seq.{length-take-le}
-use Rattle.refusals.specs.Refusals.{Refusal, Answer, ok, refused}
-use Rattle.refusals.specs.declared.Consumed.TheVariants.{To}
+use Rattle.refusals.specs.Refusals.{Answer, ok, refused, decode_refusal}
+use Rattle.std.specs.Prelude.{Result, Ok, Err}
+use Rattle.refusals.specs.declared.DecodeError.{DecodeError}
 use Rattle.refusals.proofs.Answers.{given-same, given-then}
 use Rattle.packer.proofs.Places.{lent-whole}
 use Rattle.frame.specs.Frame.{short, declared, payload_in}
@@ -15,7 +16,7 @@ use Rattle.frame.proofs.Opened.{open-laws}
 use Rattle.raw_command.specs.Commands.{plain_of}
 use Rattle.raw_command.specs.Reading.{plain_in}
 use Rattle.raw_command.specs.declared.RawCommand.{RawCommand}
-use Rattle.command_reader.specs.Reader.{hop_size, CommandFrame, content_of, read_of, count_of, command_or, SaysRead, ReadIs, part_place, hop_part_of}
+use Rattle.command_reader.specs.Reader.{hop_size, CommandFrame, content_of, read_of, count_of, command_or, told, SaysRead, ReadIs, part_place, hop_part_of}
 use Rattle.command_reader.specs.declared.CommandRead.{CommandRead}
 use Rattle.command_reader.proofs.Hops.{hops-within}
 
@@ -26,14 +27,14 @@ module _ (payload : List ℕ) (count hops : ℕ) (size : hops ≡ hop_size paylo
   behind = rw (← size, lent-whole hops payload)
 
   pub content-read : (command : RawCommand) → ok (plain_of command) ≡ plain_in (take (length payload - hops) (drop hops payload))
-      → SaysRead (content_of payload count) (record { answer = To count; command = command; hops = hops })
+      → SaysRead (content_of payload count) (Ok (record { count = count; command = command; hops = hops }))
   unfolding content_of
   content-read command e = rw (← behind, ← e) (record { answer = refl; hops = size; command = refl })
 
-  pub content-refused : (why : Refusal) {r : CommandRead} → refused why ≡ plain_in (take (length payload - hops) (drop hops payload)) → SaysRead (refused why) r
-      → SaysRead (content_of payload count) r
+  pub content-refused : (error : DecodeError) → refused (decode_refusal error) ≡ plain_in (take (length payload - hops) (drop hops payload))
+      → SaysRead (content_of payload count) (Err error)
   unfolding content_of
-  content-refused why e says = rw (← behind, ← e) says
+  content-refused error e = rw (← behind, ← e) (record { answer = refl; hops = refl; command = refl })
 
 -- ---- the frame
 
@@ -58,13 +59,13 @@ module _ (s : List ℕ) where
         size = length-take-le (declared short s) (drop 2 s) (simp length-drop (omega arith));
       }
 
-  pub read_opened : (count : ℕ) {r : CommandRead} → open_of s ≡ ok count → SaysRead (content_of (take (count - 3 - 2) (drop 2 s)) count) r → ReadIs s r
+  pub read_opened : (count : ℕ) {r : Result CommandRead DecodeError} → open_of s ≡ ok count → SaysRead (content_of (take (count - 3 - 2) (drop 2 s)) count) r → ReadIs s r
   unfolding read_of
   read_opened count e says = rw (e, ← (opened-at count e).payload) says
 
-  pub read-refused : (why : Refusal) {r : CommandRead} → open_of s ≡ refused why → SaysRead (refused why) r → ReadIs s r
+  pub read-refused : (error : DecodeError) → open_of s ≡ refused (decode_refusal error) → ReadIs s (Err error)
   unfolding read_of
-  read-refused why e says = rw e says
+  read-refused error e = rw e (record { answer = refl; hops = refl; command = refl })
 
   -- ---- what a reading tells
 
@@ -106,6 +107,10 @@ module _ (s : List ℕ) where
   part-taken start hops at size = let all : start + hops - start ≡ hops = omega arith in rw (all, at, size)
 
 -- the place of the part, by the count or the refusal
-pub place_of : (a : Answer CommandFrame) → part_place (count_of a) ≡ part_place a
+place_of : (a : Answer CommandFrame) → part_place (count_of a) ≡ part_place a
 place_of (ok frame) = refl
 place_of (refused why) = refl
+
+-- and as a result tells it
+pub told-place : {a : Answer CommandFrame} {r : Result CommandRead DecodeError} → SaysRead a r → part_place (told r).answer ≡ part_place a
+told-place {a} says = ap (λ (b : Answer ℕ). part_place b) says.answer ∙ place_of a

@@ -1,6 +1,8 @@
 -- What reading and writing back a command frame come to, beside `encode`. All for every slice of bytes, every hop part, command and buffer.
-use Rattle.std.specs.Prelude.{true, ◌≡◌, ◌↔◌, List, ◌++◌, ℕ, ◌≤◌, ◌<◌, length, take, drop}
+use Rattle.std.specs.Prelude.{true, ◌≡◌, ◌↔◌, List, ◌++◌, ℕ, Result, Ok, ◌≤◌, ◌<◌, length, take, drop}
 use Rattle.refusals.specs.Refusals.{ok, refused, incomplete_data}
+use Rattle.refusals.specs.declared.EncodeError.{EncodeError}
+use Rattle.refusals.specs.declared.WriteBackError.{WriteBackError}
 use Rattle.refusals.specs.OneAnswer.{OnlyOne, OnlyBoth}
 use Rattle.packer.specs.Nearness.{Bytes}
 use Rattle.frame.specs.Opened.{Missing}
@@ -11,13 +13,9 @@ use Rattle.command.specs.Commands.{raw_of}
 use Rattle.command.specs.declared.Command.{Command}
 use Rattle.encode.specs.Payload.{hop_bytes}
 use Rattle.encode.specs.Encode.{EncodeIs, encoded}
-use Rattle.encode.specs.declared.Encoded.{Encoded}
-use Rattle.encode.specs.declared.Encoded.TheVariants as e
 use Rattle.command_reader.specs.Reader.{CommandFrame, read_of, hop_part_of, ReadIs}
 use Rattle.command_reader.specs.Writer.{is_hops, written_again, WriteIs}
 use Rattle.command_reader.specs.declared.CommandRead.{CommandRead}
-use Rattle.command_reader.specs.declared.WrittenBack.{WrittenBack}
-use Rattle.command_reader.specs.declared.WrittenBack.TheVariants.{Written}
 
 -- a slice is read as a frame of so many bytes, with this hop part and this command
 pub record ReadAs (s : List ℕ) (count : ℕ) (hops : List ℕ) (plain : Plain) : Type 0 where
@@ -31,16 +29,16 @@ CommandFits command = Fits (form_of (plain_of command).id) (plain_of command).va
 pub record ReaderLaws : Type 0 where
   -- "Reading what `encode` wrote gives back hops and whole numbers"
   pub reads-encoded : (command : Command) (hops buffer after : List ℕ) (count : ℕ) → CommandFits (raw_of command)
-      → EncodeIs command hops buffer (e.Written count) after → ReadAs after count (hop_bytes hops) (plain_of (raw_of command))
+      → EncodeIs command hops buffer (Ok count) after → ReadAs after count (hop_bytes hops) (plain_of (raw_of command))
   -- "writing what was read gives back the same frame", where there is room for it; bytes past it are unchanged
-  pub writes-read : (s : List ℕ) → Bytes s → (r : CommandRead) (frame : CommandFrame) → ReadIs s r → read_of s ≡ ok frame
-      → (buffer after : List ℕ) (w : WrittenBack) → frame.count ≤ length buffer → WriteIs (hop_part_of s) r.command buffer w after
+  pub writes-read : (s : List ℕ) → Bytes s → (r : CommandRead) (frame : CommandFrame) → ReadIs s (Ok r) → read_of s ≡ ok frame
+      → (buffer after : List ℕ) (w : Result ℕ WriteBackError) → frame.count ≤ length buffer → WriteIs (hop_part_of s) r.command buffer w after
       → (written_again w ≡ ok frame.count) × (after ≡ take frame.count s ++ drop frame.count buffer)
   -- reading what was written gives back the hop part and the command
   pub reads-written : (hops : List ℕ) (command : RawCommand) (buffer after : List ℕ) (count : ℕ) → CommandFits command
-      → WriteIs hops command buffer (Written count) after → ReadAs after count hops (plain_of command)
+      → WriteIs hops command buffer (Ok count) after → ReadAs after count hops (plain_of command)
   -- `encode` is the writer after turning floats into whole numbers: the same answer, and the same bytes in the buffer
-  pub encode-writes : (command : Command) (hops buffer after other : List ℕ) (r : Encoded) (w : WrittenBack)
+  pub encode-writes : (command : Command) (hops buffer after other : List ℕ) (r : Result ℕ EncodeError) (w : Result ℕ WriteBackError)
       → EncodeIs command hops buffer r after → WriteIs (hop_bytes hops) (raw_of command) buffer w other
       → (encoded r ≡ written_again w) × (after ≡ other)
   -- two frames with one reading are the same frame

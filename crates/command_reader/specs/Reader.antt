@@ -1,14 +1,16 @@
 -- What one command frame at the front of a slice is read as: document 02, W2. "The start byte is judged first, then presence of length + 5 bytes, end byte, checksum, then
 -- the payload from the left." The frame is described in crate `frame`, the plain command in crate `raw_command`.
-use Rattle.std.specs.Prelude.{cond, ◌≡◌, List, [], ◌∷◌, ℕ, ◌+◌, eqb, take, drop}
-use Rattle.refusals.specs.Refusals.{Answer, ok, refused, consumed}
+use Rattle.std.specs.Prelude.{cond, ◌≡◌, List, [], ◌∷◌, ℕ, Result, Ok, Err, ◌+◌, eqb, take, drop}
+use Rattle.refusals.specs.Refusals.{Answer, ok, refused, decode_refusal}
 use Rattle.refusals.specs.Answers.{and_then}
+use Rattle.refusals.specs.declared.DecodeError.{DecodeError}
 use Rattle.format.specs.Format.{id_of, payload_at}
 use Rattle.format.specs.declared.CommandId.TheVariants.{ForwardCan}
 use Rattle.frame.specs.Frame.{short, payload_in}
 use Rattle.frame.specs.Opening.{open_of}
 use Rattle.raw_command.specs.Commands.{Plain, plain_of}
 use Rattle.raw_command.specs.Reading.{plain_in}
+use Rattle.raw_command.specs.declared.RawCommand.{RawCommand}
 use Rattle.raw_command.specs.declared.RawCommand.TheVariants.{FwVersion}
 use Rattle.command_reader.specs.declared.CommandRead.{CommandRead}
 
@@ -42,13 +44,23 @@ abbrev pub command_or : Answer CommandFrame → CommandFrame
 command_or (ok command) = command
 command_or (refused why) = record { count = 0; hops = 0; plain = plain_of FwVersion }
 
--- `r` says what was read
-pub record SaysRead (a : Answer CommandFrame) (r : CommandRead) : Type 0 where
-  pub answer : consumed r.answer ≡ count_of a
-  pub hops : r.hops ≡ (command_or a).hops
-  pub command : plain_of r.command ≡ (command_or a).plain
+-- what a result tells: the count or the refusal, the command, and how many bytes are hops. Beside a refusal the command is FwVersion, and there are no hops
+pub record Told : Type 0 where
+  pub answer : Answer ℕ
+  pub hops : ℕ
+  pub command : RawCommand
 
-abbrev pub ReadIs : List ℕ → CommandRead → Type 0
+abbrev pub told : Result CommandRead DecodeError → Told
+told (Ok read) = record { answer = ok read.count; hops = read.hops; command = read.command }
+told (Err error) = record { answer = refused (decode_refusal error); hops = 0; command = FwVersion }
+
+-- `r` says what was read
+pub record SaysRead (a : Answer CommandFrame) (r : Result CommandRead DecodeError) : Type 0 where
+  pub answer : (told r).answer ≡ count_of a
+  pub hops : (told r).hops ≡ (command_or a).hops
+  pub command : plain_of (told r).command ≡ (command_or a).plain
+
+abbrev pub ReadIs : List ℕ → Result CommandRead DecodeError → Type 0
 ReadIs s r = SaysRead (read_of s) r
 
 -- the hop part, by its place: at the payload. Document 01: "Where an answer is a part of lent bytes and there is none to give, the part is the empty one at the front."

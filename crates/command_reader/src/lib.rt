@@ -3,92 +3,57 @@
 // payload, and the plain command is the rest.
 #![tactic(auto)]
 
-ghost use Rattle.std.specs.Prelude.{◌≡◌, ◌++◌, ◌+◌, ◌≤◌, length};
-ghost use Rattle.refusals.specs.Refusals.{refused, consumed, decode_refusal};
-ghost use Rattle.format.specs.Format.{payload_at};
-ghost use Rattle.packer.specs.Packing.{PackIs, packed};
-ghost use Rattle.raw_command.specs.Commands.{parts_bytes};
+ghost use Rattle.std.specs.Prelude.{◌≡◌, ◌+◌, ◌≤◌, length};
 ghost use Rattle.command_reader.specs.Reader.{hop_size, content_of, read_of, SaysRead, ReadIs, part_place, hop_part_of};
-ghost use Rattle.command_reader.specs.Writer.{written_again, WriteIs};
+ghost use Rattle.command_reader.specs.Writer.{WriteIs};
 
-use format::{CommandId, FRAME_EXTRA, PAYLOAD_AT, PAYLOAD_MAX};
-use raw_command::{Parts, RawCommand};
-use refusals::{DecodeError, EncodeError, WriteBackError};
+use format::{BEHIND_PAYLOAD, FORWARD_CAN, FRAME_EXTRA, PAYLOAD_AT, PAYLOAD_MAX};
+use raw_command::RawCommand;
+use refusals::{DecodeError, WriteBackError};
 
-const FORWARD_CAN: u8 = CommandId::ForwardCan as u8;
-
-// What stands behind a payload: two bytes of the sum, and the end byte.
-const BEHIND_PAYLOAD: usize = FRAME_EXTRA - PAYLOAD_AT;
-
-// What `read_command` returns: the frame's count or the refusal, the command, and how many bytes at the payload's front
-// are hops, two for each. On a refusal the command is FwVersion and there are no hops.
-#[derive(Clone, Copy)]
+// What `read_command` returns of a frame that it reads: the frame's count, the command, and how many bytes at the
+// payload's front are hops, two for each.
+#[derive(Clone, Copy, Debug, PartialEq, Eq)]
 pub struct CommandRead {
-    pub answer: Result<usize, DecodeError>,
+    pub count: usize,
     pub command: RawCommand,
     pub hops: usize,
 }
 
-// What `write_command` returns: how many bytes the frame has, or the refusal.
 // How many bytes of hops stand at the front: 34 and an id by turns.
 fn hops_len(bytes: &[u8]) -> usize
     ensures { (result ≡ hop_size bytes.now) × (result ≤ length bytes.now) }
 {
-    let mut at: usize = 0;
-    while 1 < bytes.len() - at {
-        if bytes[at] != FORWARD_CAN {
-            return at;
+    let mut rest = bytes;
+    while let [first, _, behind @ ..] = rest {
+        if *first != FORWARD_CAN {
+            break;
         }
-        at += 2;
+        rest = behind;
     }
-    at
-}
-
-// A refusal, with the fillers beside it.
-fn not_read(error: DecodeError) -> CommandRead
-    ensures { SaysRead (refused (decode_refusal error)) result }
-{
-    CommandRead {
-        answer: Err(error),
-        command: RawCommand::FwVersion,
-        hops: 0,
-    }
+    bytes.len() - rest.len()
 }
 
 // The payload from the left: the hops, then the command. `count` is what the frame takes.
-fn read_payload(payload: &[u8], count: usize) -> CommandRead
+fn read_payload(payload: &[u8], count: usize) -> Result<CommandRead, DecodeError>
     ensures { SaysRead (content_of payload.now count) result }
 {
     let hops = hops_len(payload);
-    match raw_command::unpack_command(&payload[hops..]) {
-        Ok(command) => CommandRead {
-            answer: Ok(count),
-            command,
-            hops,
-        },
-        Err(error) => not_read(error),
-    }
+    let command = raw_command::unpack_command(&payload[hops..])?;
+    Ok(CommandRead {
+        count,
+        command,
+        hops,
+    })
 }
 
 // Reads the command frame at the front of `buf`; later bytes don't matter. The payload is judged only of a frame that
 // is whole, ends well and has the right sum.
-pub fn read_command(buf: &[u8]) -> CommandRead
+pub fn read_command(buf: &[u8]) -> Result<CommandRead, DecodeError>
     ensures { ReadIs buf.now result }
 {
-    match frame::open(buf) {
-        Ok(count) => read_payload(&buf[PAYLOAD_AT..count - BEHIND_PAYLOAD], count),
-        Err(error) => not_read(error),
-    }
-}
-
-// Where the hop part begins: at the payload, or at the front if there is none to give.
-fn part_place(answer: Result<usize, DecodeError>) -> usize
-    ensures { result ≡ part_place (consumed answer) }
-{
-    match answer {
-        Ok(_) => PAYLOAD_AT,
-        Err(_) => 0,
-    }
+    let count = frame::open(buf)?;
+    read_payload(&buf[PAYLOAD_AT..count - BEHIND_PAYLOAD], count)
 }
 
 // The hop part of the command frame at the front of `buf`: those very bytes of the caller's. The empty part at the
@@ -97,39 +62,19 @@ fn part_place(answer: Result<usize, DecodeError>) -> usize
 pub fn hop_part(buf: &[u8]) -> &[u8]
     ensures { (result.now ≡ hop_part_of buf.now) × (result.ref_ptr.0 ≡ buf.entry.ref_ptr.0) × (result.ref_ptr.1 ≡ buf.entry.ref_ptr.1 + part_place (read_of buf.now)) }
 {
-    let read = read_command(buf);
-    let answer = read.answer;
-    let start = part_place(answer);
-    let end = start + read.hops;
-    &buf[start..end]
-}
-
-// The payload at its place in a buffer that has room for it.
-fn pack_payload(hops: &[u8], parts: Parts, buf: &mut [u8]) -> Result<usize, EncodeError>
-    requires { payload_at + length hops.now + 1 + parts.width ≤ length buf.old }
-    ensures { PackIs (hops.now ++ parts_bytes parts) buf.old payload_at result buf.new }
-{
-    let end = PAYLOAD_AT + hops.len();
-    buf[PAYLOAD_AT..end].copy_from_slice(hops);
-    raw_command::pack_parts(parts, buf, end)
-}
-
-// What `frame::wrap` answered, as `write_command` answers it.
-fn wrapped(answer: Result<usize, EncodeError>) -> Result<usize, WriteBackError>
-    ensures { written_again result ≡ packed answer }
-{
-    match answer {
-        Ok(count) => Ok(count),
-        Err(error) => match error {
-            EncodeError::BufferTooSmall => Err(WriteBackError::BufferTooSmall),
-            EncodeError::PayloadTooLong => Err(WriteBackError::PayloadTooLong),
-        },
+    match read_command(buf) {
+        Ok(read) => &buf[PAYLOAD_AT..PAYLOAD_AT + read.hops],
+        Err(_) => &buf[..0],
     }
 }
 
 // Writes the frame of a hop part and a command at the front of `buf`, as `read_command` reads it. A refusal writes
 // nothing. The hop part is judged whole, however long it is, before the length of the payload.
-pub fn write_command(hops: &[u8], command: RawCommand, buf: &mut [u8]) -> Result<usize, WriteBackError>
+pub fn write_command(
+    hops: &[u8],
+    command: RawCommand,
+    buf: &mut [u8],
+) -> Result<usize, WriteBackError>
     ensures { WriteIs hops.now command buf.old result buf.new }
 {
     if hops_len(hops) != hops.len() {
@@ -144,6 +89,7 @@ pub fn write_command(hops: &[u8], command: RawCommand, buf: &mut [u8]) -> Result
     if buf.len() < len + FRAME_EXTRA {
         return Err(WriteBackError::BufferTooSmall); // refusal 5
     }
-    pack_payload(hops, parts, buf);
-    wrapped(frame::wrap(len, buf))
+    let end = packer::pack_bytes(buf, PAYLOAD_AT, hops)?;
+    raw_command::pack_parts(parts, buf, end)?;
+    Ok(frame::wrap(len, buf)?)
 }

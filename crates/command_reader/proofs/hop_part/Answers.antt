@@ -1,29 +1,21 @@
 -- `command_reader::hop_part` meets its contract: the part that the reading says, at its place.
-use mathlib.Core.Path.{refl, ap, ◌∙◌}
-use Prim.Native.Nat.{ℕ}
+use mathlib.Core.Path.{refl}
 use native.Mathlib.Omega.{arith}
-use Rattle.refusals.specs.Refusals.{Answer}
-use Rattle.command_reader.specs.Reader.{read_of, part_place}
-use Rattle.command_reader.proofs.Reading.{part-inside, place_of, part-taken}
+use Rattle.command_reader.proofs.Reading.{part-inside, told-place, part-taken}
 use Rattle.command_reader.proofs.hop_part.Goals as goal
 
-pub overflow_add-end : goal.overflow_add-end
-overflow_add-end c =
-    let s = c.args.buf.now in
-    let read = c.read_command-read.ensures in
-    let start = c.part_place-start.ensures ∙ ap (λ (a : Answer ℕ). part_place a) read.answer ∙ place_of (read_of s) in
-    omega (arith, start, read.hops, part-inside s)
+pub overflow_add-result : goal.overflow_add-result
+overflow_add-result c = omega (arith, told-place c.in-Ok.ensures, c.in-Ok.ensures.hops, part-inside c.args.buf.now)
 
 pub slice_bounds-result-end : goal.slice_bounds-result-end
-slice_bounds-result-end c =
-    let s = c.args.buf.now in
-    let read = c.read_command-read.ensures in
-    let start = c.part_place-start.ensures ∙ ap (λ (a : Answer ℕ). part_place a) read.answer ∙ place_of (read_of s) in
-    omega (arith, start, read.hops, part-inside s)
+slice_bounds-result-end c = omega (arith, told-place c.in-Ok.ensures, c.in-Ok.ensures.hops, part-inside c.args.buf.now)
 
-pub returns : goal.returns
-returns c =
-    let s = c.args.buf.now in
-    let read = c.read_command-read.ensures in
-    let start = c.part_place-start.ensures ∙ ap (λ (a : Answer ℕ). part_place a) read.answer ∙ place_of (read_of s) in
-    (part-taken s _ _ start read.hops, refl, omega (arith, start))
+pub returns-in-Ok : goal.returns-in-Ok
+returns-in-Ok c =
+    let start = told-place c.in-Ok.ensures in
+    (part-taken c.args.buf.now _ _ start c.in-Ok.ensures.hops, refl, omega (arith, start))
+
+pub returns-in-Err : goal.returns-in-Err
+returns-in-Err c =
+    let start = told-place c.in-Err.ensures in
+    (part-taken c.args.buf.now _ _ start c.in-Err.ensures.hops, refl, omega (arith, start))

@@ -1,12 +1,10 @@
--- `command_reader::hops_len` meets its contract. The loop's invariant: `at` bytes of hops were passed, and those of what is left are to come.
-use mathlib.Core.Path.{◌≡◌}
-use Prim.Native.Nat.{◌+◌, ◌-◌, ◌≤◌}
-use lib.ListN.{length, drop}
+-- `command_reader::hops_len` meets its contract. The loop's invariant: what was passed is hops, and those of what is left are to come.
+use Rattle.std.proofs.Common.{◌≡◌, ◌+◌, ◌≤◌, length}
 use Rattle.command_reader.specs.Reader.{hop_size}
 use Rattle.command_reader.proofs.hops_len.Given as goal
 
-abbrev pub invariant-loop-at : goal.invariant-loop-at
-invariant-loop-at l = (l.at ≤ length l.bytes) × (hop_size l.bytes ≡ l.at + hop_size (drop l.at l.bytes))
+abbrev pub invariant-loop-rest : goal.invariant-loop-rest
+invariant-loop-rest l = (length l.rest ≤ length l.bytes) × (length l.rest + hop_size l.bytes ≡ length l.bytes + hop_size l.rest)
 
-abbrev pub decreases-loop-at : goal.decreases-loop-at
-decreases-loop-at l = length l.bytes - l.at
+abbrev pub decreases-loop-rest : goal.decreases-loop-rest
+decreases-loop-rest l = length l.rest

@@ -1,13 +1,14 @@
 -- `command_reader::read_payload` meets its contract: the hops, then what follows them.
-use mathlib.Core.Path.{ap, sym, ◌∙◌}
-use Rattle.raw_command.specs.Reading.{unpacked_command}
+use mathlib.Core.Path.{◌≡◌}
+use borrow.Author.Rules.{rules}
+use Rattle.std.specs.Prelude.{Err}
 use Rattle.command_reader.proofs.Reading.{content-read, content-refused}
 use Rattle.command_reader.proofs.read_payload.Goals as goal
 
-pub returns-in-Got : goal.returns-in-Got
-returns-in-Got c =
-    content-read _ _ _ c.hops_len-hops.ensures.0 _ (sym (ap unpacked_command c.in-Got.is) ∙ c.unpack_command.ensures)
+pub returns-in_err-command : goal.returns-in_err-command
+returns-in_err-command c =
+    let passed : c.from_residual.result ≡ Err c.in_err-command.field-0.0 = search rules in
+    rw passed (content-refused _ _ _ c.hops_len-hops.ensures.0 _ c.in_err-command.ensures)
 
-pub returns-in-Refused : goal.returns-in-Refused
-returns-in-Refused c =
-    content-refused _ _ _ c.hops_len-hops.ensures.0 _ (sym (ap unpacked_command c.in-Refused.is) ∙ c.unpack_command.ensures) c.not_read.ensures
+pub returns : goal.returns
+returns c = content-read _ _ _ c.hops_len-hops.ensures.0 _ c.in_ok-command.ensures
