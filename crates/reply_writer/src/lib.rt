@@ -246,7 +246,6 @@ pub fn write_reply(reply: RawReply, buf: &mut [u8]) -> Result<usize, ReplyWriteE
         return Err(ReplyWriteError::BufferTooSmall); // refusal 5, tested last
     }
     // With room, neither refuses: no payload of a reply is too long for a frame.
-    let _ = pack_payload(reply, buf);
-    let _ = frame::wrap(len, buf);
-    Ok(len + FRAME_EXTRA)
+    pack_payload(reply, buf).map_err(|_| ReplyWriteError::BufferTooSmall)?;
+    frame::wrap(len, buf).map_err(|_| ReplyWriteError::BufferTooSmall)
 }
