@@ -31,32 +31,40 @@ pub(crate) fn u8_at(buf: &[u8], pos: usize) -> Read<u8>
     ensures { number_told result ≡ unsigned_read 1 buf.now pos }
 {
     let mut u = Unpacker { buf, pos };
-    let answer = u.unpack_u8();
-    Read { answer, pos: u.pos }
+    Read {
+        answer: u.unpack_u8(),
+        pos: u.pos,
+    }
 }
 
 pub(crate) fn u32_at(buf: &[u8], pos: usize) -> Read<u32>
     ensures { number_told result ≡ unsigned_read 4 buf.now pos }
 {
     let mut u = Unpacker { buf, pos };
-    let answer = u.unpack_u32();
-    Read { answer, pos: u.pos }
+    Read {
+        answer: u.unpack_u32(),
+        pos: u.pos,
+    }
 }
 
 pub(crate) fn f32_at(buf: &[u8], pos: usize, scale: f32) -> Read<f32>
     ensures { number_told result ≡ scaled_read 4 scale buf.now pos }
 {
     let mut u = Unpacker { buf, pos };
-    let answer = u.unpack_f32(scale);
-    Read { answer, pos: u.pos }
+    Read {
+        answer: u.unpack_f32(scale),
+        pos: u.pos,
+    }
 }
 
 pub(crate) fn name39_at(buf: &[u8], pos: usize) -> Read<[u8; 39]>
     ensures { name_told 39 result ≡ name_read 39 buf.now pos }
 {
     let mut u = Unpacker { buf, pos };
-    let answer = u.unpack_c_string();
-    Read { answer, pos: u.pos }
+    Read {
+        answer: u.unpack_c_string(),
+        pos: u.pos,
+    }
 }
 
 // Four reads in a row.
@@ -72,18 +80,22 @@ pub(crate) fn in_a_row(buf: &[u8], scale: f32) -> Row
     ensures { row_four result ≡ in_a_row scale buf.now }
 {
     let mut u = Unpacker::new(buf);
-    let answer = u.unpack_u8();
-    let byte = Read { answer, pos: u.pos };
-    let answer = u.unpack_c_string();
-    let name = Read { answer, pos: u.pos };
-    let answer = u.unpack_u32();
-    let number = Read { answer, pos: u.pos };
-    let answer = u.unpack_f32(scale);
-    let scaled = Read { answer, pos: u.pos };
     Row {
-        byte,
-        name,
-        number,
-        scaled,
+        byte: Read {
+            answer: u.unpack_u8(),
+            pos: u.pos,
+        },
+        name: Read {
+            answer: u.unpack_c_string(),
+            pos: u.pos,
+        },
+        number: Read {
+            answer: u.unpack_u32(),
+            pos: u.pos,
+        },
+        scaled: Read {
+            answer: u.unpack_f32(scale),
+            pos: u.pos,
+        },
     }
 }

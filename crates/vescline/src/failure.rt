@@ -5,7 +5,7 @@ use std::fmt;
 use std::fmt::Write;
 use std::io::Error;
 
-#[derive(Clone, Copy, Debug)]
+#[derive(Clone, Copy)]
 pub(crate) enum Failure {
     Input(Error),
     Output(Error),
