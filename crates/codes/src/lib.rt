@@ -97,11 +97,12 @@ const FAULT_CODES: [FaultCode; 30] = [
 impl From<u8> for FaultCode {
     ghost from_gives = { λ byte fault. fault ≡ fault_of byte };
 
+    #[tactic(auto, unfolding(crate::specs::Codes::fault_of))]
     fn from(byte: u8) -> Self {
-        FAULT_CODES
-            .get(byte as usize)
-            .copied()
-            .unwrap_or(FaultCode::Unknown)
+        match FAULT_CODES.get(byte as usize) {
+            Some(fault) => *fault,
+            None => FaultCode::Unknown,
+        }
     }
 }
 

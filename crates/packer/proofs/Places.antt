@@ -9,7 +9,7 @@ use lib.Dec.{leb}
 use lib.ListN.{length, take, drop, replicate, length-drop}
 use lib.Seq.{take_all}
 use borrow.Author.Tests.{le-leb, lt-leb, leb-true, leb-false}
-use Rattle.core.specs.Option.{ok_or}
+use Rattle.std.specs.Prelude.{ok_or}
 use Rattle.std.specs.Prelude.{Some, None, Ok, Err}
 use Rattle.refusals.specs.Refusals.{Answer, Refusal, ok, refused, consumed, incomplete_data, buffer_too_small}
 use Rattle.refusals.specs.declared.DecodeError.TheVariants.{IncompleteData}

@@ -11,7 +11,7 @@ use Rattle.names.specs.Names.{sent_of, name_sent}
 use Rattle.names.proofs.Sent.{sent-given}
 use Rattle.reply_writer.specs.Writer.{is_given}
 use Rattle.std.specs.Prelude.{Option, Some, None}
-use Rattle.core.specs.Option.{unwrap_or, is_some}
+use Rattle.std.specs.Prelude.{unwrap_or, is_some}
 
 -- what is sent of a name lies in it
 pub sent-inside : (room : ℕ) (held : List ℕ) → place_or 0 (sent_of room held) ≤ length held

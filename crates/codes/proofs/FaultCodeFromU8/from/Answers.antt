@@ -1,15 +1,11 @@
--- `FaultCode::from(byte)` meets its contract: what the table has at the byte, and Unknown past its end.
-use mathlib.Core.Path.{ap, ◌∙◌}
-use Rattle.core.proofs.slice.Searches.{copied_from_item}
-use Rattle.std.specs.Prelude.{unwrap_or}
-use Rattle.std.proofs.lemmas.Option.{unwrap_or-slice_get}
-use Rattle.codes.specs.declared.FaultCode.{FaultCode}
+-- `FaultCode::from(byte)` meets its contract past the table's end: there the list has no element.
+use Rattle.std.proofs.Common.{◌≤◌, length, sym}
+use Rattle.std.proofs.lemmas.List.{get_or_past}
 use Rattle.codes.specs.Codes.{faults, fault_of}
 use Rattle.codes.proofs.FaultCodeFromU8.from.Goals as goal
 
-pub returns : goal.returns
+pub returns-in-None : goal.returns-in-None
 unfolding fault_of
-returns c =
-    c.unwrap_or.ensures
-    ∙ ap (λ o. unwrap_or o FaultCode.Unknown) (c.copied.ensures ∙ copied_from_item faults c.args.byte c.args.byte _ (λ h. h) (λ h. h) c.get.ensures.lookup)
-    ∙ unwrap_or-slice_get faults c.args.byte _
+returns-in-None c =
+    let past : length faults ≤ c.args.byte = c.in-None.ensures.lookup.3 in
+    sym (get_or_past faults c.args.byte _ past)
