@@ -1,15 +1,15 @@
 -- The raw records and the raw values of their layouts, both ways.
-use mathlib.Core.Path.{◌≡◌, refl, ap}
+use mathlib.Core.Path.{◌≡◌, refl, sym, ap}
 use mathlib.Core.List.{List, [], ◌∷◌}
 use Prim.Native.Nat.{ℕ, zero, suc}
 use lib.ListN.{length, get_or, replicate}
 use Rattle.packer.specs.Numbers.{Below}
 use Rattle.codes.specs.Codes.{hw_type_of, qml_hw_of}
-use Rattle.layout.specs.Layout.{RawsOf}
+use Rattle.layout.specs.Layout.{RawsOf, raws}
 use Rattle.layout.specs.Replies.{fw_version_layout, fw_info_layout}
 use Rattle.layout.specs.Writing.{Fits}
-use Rattle.firmware.specs.Firmware.{info_by}
-use Rattle.firmware.specs.RawVersion.{raw_version_by, version_raws, info_raws}
+use Rattle.firmware.specs.Firmware.{info_by, fw_version_of, no_fw_version}
+use Rattle.firmware.specs.RawVersion.{raw_version_by, raw_version_of, version_from, version_raws, info_raws, no_raw_fw_version}
 use Rattle.firmware.specs.Raw.{RawFirmware}
 
 -- a function's values at the first so many places
@@ -31,8 +31,11 @@ version-raws (front, (hw_name_bytes, (uuid, (single, (fw_name_bytes, (crc, _))))
 info-raws : (r : RawsOf fw_info_layout) → Fits fw_info_layout r → info_raws (info_by r) ≡ r
 info-raws (front, (commit, (user, _))) (three, _) = λ i. (one_by_one (replicate 3 1) front three i, (commit, (user, tt)))
 
-pub raw-firmware : RawFirmware
+pub no-version : version_from no_raw_fw_version ≡ no_fw_version
 unfolding hw_type_of qml_hw_of
+no-version = refl
+
+pub raw-firmware : RawFirmware
 raw-firmware =
     record {
       version-back = λ v. refl;
@@ -40,5 +43,10 @@ raw-firmware =
       version-raws = version-raws;
       info-raws = info-raws;
       version-by = λ r. refl;
-      no-version = refl;
+      no-version = no-version;
     }
+
+-- of a payload: the version that its raw record stands for
+pub version-of : (payload : List ℕ) → version_from (raw_version_of payload) ≡ fw_version_of payload
+unfolding raw_version_of fw_version_of
+version-of payload = sym (raw-firmware.version-by (raws fw_version_layout payload 1))

@@ -1,21 +1,19 @@
 // Firmware version and build information. Ports `FwVersion` and `FwInfo` of src/command.rs with their readers; the texts of
 // their names are the crate `text`'s, over the lent name bytes. A payload that ends early reads as if zeros followed; a good
 // frame's never does (judge/specs/Good.antt).
-#![tactic(auto)]
+#![tactic(auto, using(crate::proofs::Given::given))]
 
-ghost use Rattle.std.specs.Prelude.{◌≡◌, [], ◌∷◌, ◌≤◌, length, replicate, get_or};
-ghost use Rattle.refusals.specs.Refusals.{consumed};
-ghost use Rattle.refusals.specs.Answers.{place_or};
+ghost use Rattle.std.specs.Prelude.{◌≡◌, [], ◌∷◌, ◌≤◌, length, replicate};
 ghost use Rattle.packer.specs.Numbers.{numbers_at};
-ghost use Rattle.layout.specs.Layout.{raws};
+ghost use Rattle.layout.specs.Layout.{name, raw_of, after_of, raws};
 ghost use Rattle.layout.specs.Replies.{fw_version_rest};
 ghost use Rattle.firmware.specs.RawVersion.{raw_version_by, raw_version_of, version_from, no_raw_fw_version};
-ghost use Rattle.firmware.specs.Firmware.{flag_of, version_by, fw_version_of, fw_info_of, no_fw_version, no_fw_info};
+ghost use Rattle.firmware.specs.Firmware.{fw_version_of, fw_info_of, no_fw_version, no_fw_info};
 
 use codes::{HwType, QmlHw};
 
 // Firmware version data.
-#[derive(Clone, Copy)]
+#[derive(Clone, Copy, Debug, PartialEq, Eq)]
 pub struct FwVersion {
     pub major: u8,
     pub minor: u8,
@@ -34,7 +32,7 @@ pub struct FwVersion {
 }
 
 // The same, each flag and kind as the byte that was carried.
-#[derive(Clone, Copy)]
+#[derive(Clone, Copy, Debug, PartialEq, Eq)]
 pub struct RawFwVersion {
     pub major: u8,
     pub minor: u8,
@@ -53,7 +51,7 @@ pub struct RawFwVersion {
 }
 
 // Firmware build information.
-#[derive(Clone, Copy)]
+#[derive(Clone, Copy, Debug, PartialEq, Eq)]
 pub struct FwInfo {
     pub major: u8,
     pub minor: u8,
@@ -62,21 +60,14 @@ pub struct FwInfo {
     pub user_commit_hash: [u8; format::FW_INFO_COMMIT_HASH_MAX_LEN],
 }
 
-// A true flag is a nonzero byte.
-fn flag_at(payload: &[u8], at: usize) -> bool
-    ensures { result ≡ flag_of (get_or payload.now at 0) }
+// The name at a place of a payload, and the place after it. A refused name reads as zeros, and the place is the end, so that
+// nothing more is read.
+fn name_or_zeros<const N: usize>(payload: &[u8], at: usize) -> ([u8; N], usize)
+    ensures bytes { result.0 ≡ raw_of (name N) payload.now at }
+    ensures next { result.1 ≡ after_of (name N) payload.now at }
+    ensures within { result.1 ≤ length payload.now }
 {
-    tables::byte_at(payload, at) != 0
-}
-
-// The place after a name; after a refused one the end, so that nothing more is read.
-fn end_of(answer: Result<usize, DecodeError>, len: usize) -> usize
-    ensures { result ≡ place_or len (consumed answer) }
-{
-    match answer {
-        Ok(next) => next,
-        Err(_) => len,
-    }
+    names::unpack_c_string(payload, at).unwrap_or(([0; N], payload.len()))
 }
 
 // The first twelve bytes.
@@ -84,39 +75,32 @@ fn uuid_of(part: &[u8]) -> [u8; 12]
     ensures { result ≡ numbers_at (replicate 12 1) part.now 0 }
 {
     let mut uuid = [0u8; 12];
-    if part.len() < 12 {
-        uuid[..part.len()].copy_from_slice(part);
-        return uuid;
-    }
-    uuid.copy_from_slice(&part[0..12]);
+    let there = part.len().min(12);
+    uuid[..there].copy_from_slice(&part[..there]);
     uuid
 }
 
 // The fields after hw_name: their places in the part do not depend on the name.
-fn fw_version_after(
+fn raw_fw_version_after(
     major: u8,
     minor: u8,
     hw_name: [u8; format::FW_VERSION_NAME_MAX_LEN],
     rest: &[u8],
-) -> FwVersion
-    ensures { result ≡ version_by ((major ∷ minor ∷ []), (hw_name, raws fw_version_rest rest.now 0)) }
+) -> RawFwVersion
+    ensures { result ≡ raw_version_by ((major ∷ minor ∷ []), (hw_name, raws fw_version_rest rest.now 0)) }
 {
-    let fw = names::unpack_c_string_39(rest, 20);
-    let fw_name = fw.bytes;
-    let answer = fw.answer;
-    let end = end_of(answer, rest.len());
-    let uuid = uuid_of(rest);
-    FwVersion {
+    let (fw_name, end) = name_or_zeros(rest, 20);
+    RawFwVersion {
         major,
         minor,
         hw_name,
-        uuid,
-        pairing_done: flag_at(rest, 12),
+        uuid: uuid_of(rest),
+        pairing_done: tables::byte_at(rest, 12),
         test_version_number: tables::byte_at(rest, 13),
-        hw_type: codes::hw_type(tables::byte_at(rest, 14)),
+        hw_type: tables::byte_at(rest, 14),
         custom_config_num: tables::byte_at(rest, 15),
-        has_phase_filters: flag_at(rest, 16),
-        qml_hw: codes::qml_hw(tables::byte_at(rest, 17)),
+        has_phase_filters: tables::byte_at(rest, 16),
+        qml_hw: tables::byte_at(rest, 17),
         qml_app: tables::byte_at(rest, 18),
         nrf_flags: tables::byte_at(rest, 19),
         fw_name,
@@ -125,57 +109,10 @@ fn fw_version_after(
 }
 
 // The part after hw_name is handed on from the payload's middle.
-pub fn unpack_fw_version(payload: &[u8]) -> FwVersion
-    ensures { result ≡ fw_version_of payload.now }
-{
-    let hw = names::unpack_c_string_39(payload, 3);
-    let hw_name = hw.bytes;
-    let answer = hw.answer;
-    let end = end_of(answer, payload.len());
-    let major = tables::byte_at(payload, 1);
-    let minor = tables::byte_at(payload, 2);
-    fw_version_after(major, minor, hw_name, &payload[end..])
-}
-
-// The fields after hw_name, as carried.
-fn raw_fw_version_after(
-    major: u8,
-    minor: u8,
-    hw_name: [u8; format::FW_VERSION_NAME_MAX_LEN],
-    part: &[u8],
-) -> RawFwVersion
-    ensures { result ≡ raw_version_by ((major ∷ minor ∷ []), (hw_name, raws fw_version_rest part.now 0)) }
-{
-    let fw = names::unpack_c_string_39(part, 20);
-    let fw_name = fw.bytes;
-    let answer = fw.answer;
-    let end = end_of(answer, part.len());
-    let uuid = uuid_of(part);
-    RawFwVersion {
-        major,
-        minor,
-        hw_name,
-        uuid,
-        pairing_done: tables::byte_at(part, 12),
-        test_version_number: tables::byte_at(part, 13),
-        hw_type: tables::byte_at(part, 14),
-        custom_config_num: tables::byte_at(part, 15),
-        has_phase_filters: tables::byte_at(part, 16),
-        qml_hw: tables::byte_at(part, 17),
-        qml_app: tables::byte_at(part, 18),
-        nrf_flags: tables::byte_at(part, 19),
-        fw_name,
-        hw_crc: tables::word_at(part, end),
-    }
-}
-
 pub fn unpack_raw_fw_version(payload: &[u8]) -> RawFwVersion
     ensures { result ≡ raw_version_of payload.now }
 {
-    let hw = names::unpack_c_string_39(payload, 3);
-    let hw_name = hw.bytes;
-    let answer = hw.answer;
-    let end = end_of(answer, payload.len());
+    let (hw_name, end) = name_or_zeros(payload, 3);
     raw_fw_version_after(
         tables::byte_at(payload, 1),
         tables::byte_at(payload, 2),
@@ -185,39 +122,46 @@ pub fn unpack_raw_fw_version(payload: &[u8]) -> RawFwVersion
 }
 
 // The flags and kinds that the carried bytes stand for; a true flag is a nonzero byte. The other fields as they are.
-pub fn fw_version_of(raw: RawFwVersion) -> FwVersion
-    ensures { result ≡ version_from raw }
-{
-    let hw_name = raw.hw_name;
-    let uuid = raw.uuid;
-    let fw_name = raw.fw_name;
-    FwVersion {
-        major: raw.major,
-        minor: raw.minor,
-        hw_name,
-        uuid,
-        pairing_done: raw.pairing_done != 0,
-        test_version_number: raw.test_version_number,
-        hw_type: codes::hw_type(raw.hw_type),
-        custom_config_num: raw.custom_config_num,
-        has_phase_filters: raw.has_phase_filters != 0,
-        qml_hw: codes::qml_hw(raw.qml_hw),
-        qml_app: raw.qml_app,
-        nrf_flags: raw.nrf_flags,
-        fw_name,
-        hw_crc: raw.hw_crc,
+impl From<RawFwVersion> for FwVersion {
+    ghost from_gives = { λ raw given. given ≡ version_from raw };
+
+    fn from(raw: RawFwVersion) -> FwVersion {
+        let RawFwVersion {
+            hw_name,
+            uuid,
+            fw_name,
+            ..
+        } = raw;
+        FwVersion {
+            major: raw.major,
+            minor: raw.minor,
+            hw_name,
+            uuid,
+            pairing_done: raw.pairing_done != 0,
+            test_version_number: raw.test_version_number,
+            hw_type: HwType::from(raw.hw_type),
+            custom_config_num: raw.custom_config_num,
+            has_phase_filters: raw.has_phase_filters != 0,
+            qml_hw: QmlHw::from(raw.qml_hw),
+            qml_app: raw.qml_app,
+            nrf_flags: raw.nrf_flags,
+            fw_name,
+            hw_crc: raw.hw_crc,
+        }
     }
+}
+
+pub fn unpack_fw_version(payload: &[u8]) -> FwVersion
+    ensures { result ≡ fw_version_of payload.now }
+{
+    FwVersion::from(unpack_raw_fw_version(payload))
 }
 
 pub fn unpack_fw_info(payload: &[u8]) -> FwInfo
     ensures { result ≡ fw_info_of payload.now }
 {
-    let commit = names::unpack_c_string_47(payload, 4);
-    let commit_hash = commit.bytes;
-    let answer = commit.answer;
-    let end = end_of(answer, payload.len());
-    let user = names::unpack_c_string_47(payload, end);
-    let user_commit_hash = user.bytes;
+    let (commit_hash, end) = name_or_zeros(payload, 4);
+    let (user_commit_hash, _) = name_or_zeros(payload, end);
     FwInfo {
         major: tables::byte_at(payload, 1),
         minor: tables::byte_at(payload, 2),
@@ -233,8 +177,8 @@ pub fn no_raw_fw_version() -> RawFwVersion
     RawFwVersion {
         major: 0,
         minor: 0,
-        hw_name: [0u8; format::FW_VERSION_NAME_MAX_LEN],
-        uuid: [0u8; 12],
+        hw_name: [0; format::FW_VERSION_NAME_MAX_LEN],
+        uuid: [0; 12],
         pairing_done: 0,
         test_version_number: 0,
         hw_type: 0,
@@ -243,30 +187,15 @@ pub fn no_raw_fw_version() -> RawFwVersion
         qml_hw: 0,
         qml_app: 0,
         nrf_flags: 0,
-        fw_name: [0u8; format::FW_VERSION_NAME_MAX_LEN],
-        hw_crc: 0u32,
+        fw_name: [0; format::FW_VERSION_NAME_MAX_LEN],
+        hw_crc: 0,
     }
 }
 
 pub fn no_fw_version() -> FwVersion
     ensures { result ≡ no_fw_version }
 {
-    FwVersion {
-        major: 0,
-        minor: 0,
-        hw_name: [0u8; format::FW_VERSION_NAME_MAX_LEN],
-        uuid: [0u8; 12],
-        pairing_done: false,
-        test_version_number: 0,
-        hw_type: HwType::Vesc,
-        custom_config_num: 0,
-        has_phase_filters: false,
-        qml_hw: QmlHw::None,
-        qml_app: 0,
-        nrf_flags: 0,
-        fw_name: [0u8; format::FW_VERSION_NAME_MAX_LEN],
-        hw_crc: 0,
-    }
+    FwVersion::from(no_raw_fw_version())
 }
 
 pub fn no_fw_info() -> FwInfo
@@ -276,7 +205,7 @@ pub fn no_fw_info() -> FwInfo
         major: 0,
         minor: 0,
         test_version_number: 0,
-        commit_hash: [0u8; format::FW_INFO_COMMIT_HASH_MAX_LEN],
-        user_commit_hash: [0u8; format::FW_INFO_COMMIT_HASH_MAX_LEN],
+        commit_hash: [0; format::FW_INFO_COMMIT_HASH_MAX_LEN],
+        user_commit_hash: [0; format::FW_INFO_COMMIT_HASH_MAX_LEN],
     }
 }

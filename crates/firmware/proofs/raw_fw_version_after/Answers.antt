@@ -5,21 +5,19 @@ use native.Mathlib.Omega.{arith}
 use Rattle.packer.specs.Numbers.{be_at, total}
 use Rattle.packer.proofs.Bytes.{byte_of, number_of}
 use Rattle.layout.specs.Layout.{raw_of, after_of, raws}
-use Rattle.firmware.proofs.Ends.{name-raw, name-after}
 use Rattle.firmware.proofs.raw_fw_version_after.Goals as goal
 
 pub returns : goal.returns
 unfolding raws raw_of after_of total
 returns c =
     let args = c.args in
-    let part = args.part.now in
-    let name = c.unpack_c_string_39-fw in
-    let end = name-after 39 part 20 name.result.answer name.result.bytes name.ensures _ c.end_of-end.ensures in
+    let part = args.rest.now in
+    let name = c.name_or_zeros-end.ensures in
     λ i. record {
       major = args.major;
       minor = args.minor;
       hw_name = args.hw_name;
-      uuid = c.uuid_of-uuid.ensures i;
+      uuid = c.uuid_of.ensures i;
       pairing_done = (c.byte_at.ensures ∙ sym (byte_of 8 part 12 0 (omega arith))) i;
       test_version_number = (c.byte_at-2.ensures ∙ sym (byte_of 8 part 12 1 (omega arith))) i;
       hw_type = (c.byte_at-3.ensures ∙ sym (byte_of 8 part 12 2 (omega arith))) i;
@@ -28,6 +26,6 @@ returns c =
       qml_hw = (c.byte_at-6.ensures ∙ sym (byte_of 8 part 12 5 (omega arith))) i;
       qml_app = (c.byte_at-7.ensures ∙ sym (byte_of 8 part 12 6 (omega arith))) i;
       nrf_flags = (c.byte_at-8.ensures ∙ sym (byte_of 8 part 12 7 (omega arith))) i;
-      fw_name = name-raw 39 part 20 name.result.answer name.result.bytes name.ensures i;
-      hw_crc = (c.word_at.ensures ∙ ap (λ (at : ℕ). be_at part at 4) end ∙ sym (number_of 4 part _)) i;
+      fw_name = name.bytes i;
+      hw_crc = (c.word_at.ensures ∙ ap (λ (at : ℕ). be_at part at 4) name.next ∙ sym (number_of 4 part _)) i;
     }

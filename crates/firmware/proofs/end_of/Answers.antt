@@ -1,8 +1,0 @@
--- `firmware::end_of` meets its contract.
-use Rattle.firmware.proofs.end_of.Goals as goal
-
-pub returns-in-To : goal.returns-in-To
-returns-in-To c = rw c.in-To.is
-
-pub returns-in-Refused : goal.returns-in-Refused
-returns-in-Refused c = rw c.in-Refused.is
