@@ -10,7 +10,7 @@ use lib.ListN.{length, get_or, take, drop, replicate}
 use lib.Seq.{take_all}
 use Rattle.std.specs.Prelude.{Result, Ok, Err}
 use Rattle.std.proofs.lemmas.Bool.{cases_lt}
-use Rattle.core.specs.Result.{result_unwrap_or}
+use Rattle.std.specs.Result.{result_unwrap_or}
 use Rattle.refusals.specs.Refusals.{Answer, ok, refused}
 use Rattle.refusals.specs.Answers.{place_or}
 use Rattle.refusals.specs.declared.DecodeError.{DecodeError}
