@@ -1,13 +1,12 @@
 -- Hops at the front of bytes: how many of them, what follows, and what a hop part of the form is.
 use mathlib.Core.Bool.{Bool, true, false, cond}
 use mathlib.Core.Logic.{◌↔◌}
-use mathlib.Core.Path.{◌≡◌, refl}
+use mathlib.Core.Path.{◌≡◌, refl, sym, ap, ◌∙◌}
 use mathlib.Core.List.{List, [], ◌∷◌, ◌++◌}
-use Prim.Native.Nat.{ℕ, suc, ◌+◌, ◌-◌, ◌≤◌, ◌<◌}
+use Prim.Native.Nat.{ℕ, zero, suc, ◌*◌, ◌+◌, ◌≤◌, ◌<◌}
 use native.Mathlib.Omega.{arith}
 use lib.Dec.{eqb}
-use lib.ListN.{length, get_or, take, drop}
-use lib.Seq.{take_all}
+use lib.ListN.{length, get_or, take}
 use borrow.Author.Tests.{eq-eqb, ne_eqb, eqb-true}
 use Rattle.encode.specs.Payload.{hop_bytes}
 use Rattle.command_reader.specs.Reader.{hop_size}
@@ -27,31 +26,21 @@ hops-within (first ∷ second ∷ rest) = go (eqb first 34) (hops-within rest)
 
 -- ---- the front of bytes
 
--- fewer than two bytes are no hop
-pub no-pair : (bytes : List ℕ) → length bytes < 2 → hop_size bytes ≡ 0
+-- so many pairs that begin with 34, and then none
+pub hops-counted
+    : (count : ℕ) (bytes : List ℕ) → count * 2 ≤ length bytes → ((k : ℕ) → k < count → get_or bytes (k * 2) 0 ≡ 34)
+    → (count * 2 + 2 ≤ length bytes → get_or bytes (count * 2) 0 ≡ 34 → ⊥) → count * 2 ≡ hop_size bytes
 unfolding hop_size
-no-pair [] few = refl
-no-pair (one ∷ []) few = refl
-no-pair (one ∷ two ∷ bytes) few = absurd (omega arith)
-
-pub no-hop : (bytes : List ℕ) → 2 ≤ length bytes → (get_or bytes 0 0 ≡ 34 → ⊥) → hop_size bytes ≡ 0
-unfolding hop_size
-no-hop [] there other = absurd (omega arith)
-no-hop (one ∷ []) there other = absurd (omega arith)
-no-hop (first ∷ second ∷ bytes) there other = rw (ne_eqb first 34 other)
-
--- a hop, and the part behind it as it is lent
-pub record HopFirst (bytes behind : List ℕ) : Type 0 where
-  pub size : hop_size bytes ≡ 2 + hop_size behind
-  pub shorter : length bytes ≡ 2 + length behind
-
-pub a-hop : (bytes : List ℕ) → 2 ≤ length bytes → get_or bytes 0 0 ≡ 34 → HopFirst bytes (take (length bytes - 2) (drop 2 bytes))
-unfolding hop_size
-a-hop [] there hop = absurd (omega arith)
-a-hop (one ∷ []) there hop = absurd (omega arith)
-a-hop (first ∷ second ∷ bytes) there hop =
-    let all : take (length (first ∷ second ∷ bytes) - 2) bytes ≡ bytes = take_all (length (first ∷ second ∷ bytes) - 2) bytes (omega arith) in
-    rw all (record { size = rw (eq-eqb first 34 hop); shorter = omega arith })
+hops-counted zero [] within each ends = refl
+hops-counted zero (one ∷ []) within each ends = refl
+hops-counted zero (first ∷ second ∷ bytes) within each ends = rw (ne_eqb first 34 (ends (omega arith)))
+hops-counted (suc count) [] within each ends = absurd (omega arith)
+hops-counted (suc count) (one ∷ []) within each ends = absurd (omega arith)
+hops-counted (suc count) (first ∷ second ∷ bytes) within each ends =
+    let next : (k : ℕ) → suc k * 2 ≡ suc (suc (k * 2)) = λ k. omega arith in
+    let there : (k : ℕ) → get_or (first ∷ second ∷ bytes) (suc k * 2) 0 ≡ get_or bytes (k * 2) 0 = λ k. ap (λ (i : ℕ). get_or (first ∷ second ∷ bytes) i 0) (next k) in
+    let behind = hops-counted count bytes (omega arith) (λ k below. sym (there k) ∙ each (suc k) (omega arith)) (λ more e. ends (omega arith) (there count ∙ e)) in
+    rw (eq-eqb first 34 (each 0 (omega arith))) (omega arith)
 
 -- bytes that begin with something else
 pub other-front : (first : ℕ) (rest : List ℕ) → eqb first 34 ≡ false → hop_size (first ∷ rest) ≡ 0

@@ -3,7 +3,7 @@
 // payload, and the plain command is the rest.
 #![tactic(auto)]
 
-ghost use Rattle.std.specs.Prelude.{◌≡◌, ◌+◌, ◌≤◌, length};
+ghost use Rattle.std.specs.Prelude.{◌≡◌, ◌≢◌, ℕ, ◌+◌, ◌*◌, ◌≤◌, ◌<◌, length, slice_index};
 ghost use Rattle.command_reader.specs.Reader.{hop_size, content_of, read_of, SaysRead, ReadIs, part_place, hop_part_of};
 ghost use Rattle.command_reader.specs.Writer.{WriteIs};
 
@@ -20,18 +20,23 @@ pub struct CommandRead {
     pub hops: usize,
 }
 
-// How many bytes of hops stand at the front: 34 and an id by turns.
+// How many hops stand at the front: 34 and an id by turns.
+fn hop_count(bytes: &[u8]) -> usize
+    ensures within { result * 2 ≤ length bytes.now }
+    ensures hops { (k : ℕ) → k < result → slice_index bytes.now (k * 2) ≡ 34 }
+    ensures ends { result * 2 + 2 ≤ length bytes.now → slice_index bytes.now (result * 2) ≢ 34 }
+{
+    bytes
+        .chunks_exact(2)
+        .take_while(|hop| hop[0] == FORWARD_CAN)
+        .count()
+}
+
+// And how many bytes they take.
 fn hops_len(bytes: &[u8]) -> usize
     ensures { (result ≡ hop_size bytes.now) × (result ≤ length bytes.now) }
 {
-    let mut rest = bytes;
-    while let [first, _, behind @ ..] = rest {
-        if *first != FORWARD_CAN {
-            break;
-        }
-        rest = behind;
-    }
-    bytes.len() - rest.len()
+    hop_count(bytes) * 2
 }
 
 // The payload from the left: the hops, then the command. `count` is what the frame takes.
