@@ -7,7 +7,7 @@ ghost use Rattle.raw_reply.specs.RawReply.{blank_raw, raw_as, raw_reply_of, repl
 ghost use Rattle.raw_reply.specs.Reading.{raw_read, raw_read_of};
 ghost use Rattle.reply.specs.declared.Kind.TheVariants as kind;
 
-use firmware::{FwInfo, RawFwVersion};
+use firmware::{FwInfo, FwVersion, RawFwVersion};
 use raw_telemetry::{RawSetupValues, RawStats, RawValues};
 use refusals::DecodeError;
 use reply::{CommandReply, Kind};
@@ -139,7 +139,7 @@ impl From<RawReply> for CommandReply {
                 raw_telemetry::setup_values_numbers(raw.setup_values),
             ),
             stats: telemetry::stats_of(raw.stats.mask, raw_telemetry::stats_numbers(raw.stats)),
-            fw_version: firmware::fw_version_of(raw.fw_version),
+            fw_version: FwVersion::from(raw.fw_version),
             fw_info: raw.fw_info,
         }
     }

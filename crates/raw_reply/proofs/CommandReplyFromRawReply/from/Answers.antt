@@ -16,5 +16,5 @@ returns c =
       c.stats_of.ensures,
       c.stats_numbers.ensures,
       stats-padded,
-      c.fw_version_of.ensures,
+      c.from.ensures,
     )
