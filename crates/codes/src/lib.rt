@@ -120,6 +120,7 @@ impl From<u8> for HwType {
     }
 }
 
+// As `HwType`, with other names: written out, because one generic form would have to be given the names.
 impl From<u8> for QmlHw {
     ghost from_gives = { λ byte qml. qml ≡ qml_hw_of byte };
 

@@ -57,7 +57,8 @@ pub enum Command {
     MotorEstop(u16),
 }
 
-// The command with the whole number that is sent: a value times its scale, toward zero and held.
+// The command with the whole number that is sent: a value times its scale, toward zero and held. A function and no `From`,
+// because README.md names it, and it loses what the scale cuts off.
 pub fn raw_of(command: Command) -> RawCommand
     ensures { result ≡ raw_of command }
 {

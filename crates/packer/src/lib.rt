@@ -1,5 +1,7 @@
 // Numbers in a lent slice of bytes. Ports src/packer.rs: what its `Unpacker` and `Packer` do at
-// their position stands here as functions of the slice and the position.
+// their position stands here as functions of the slice and the position. The pair is no struct, because document 01 asks
+// for the position by value; crate `unpacker` has the struct. The readers and writers keep the names of the Rust's methods:
+// each is one call of `unpack_be` or `pack_be` over the width, and one generic function over a trait would be no plainer.
 #![tactic(auto)]
 
 ghost use Rattle.std.specs.Prelude.{◌≡◌, ◌+◌, ◌*◌, ◌%◌, ◌≤◌, ◌<◌, ◌^◌, length, IfOk};
@@ -40,7 +42,8 @@ pub fn consume(buf: &[u8], pos: usize, width: usize) -> Result<usize, DecodeErro
     end_within(buf.len(), pos, width).ok_or(DecodeError::IncompleteData)
 }
 
-// The place after `width` bytes that are to be written at `pos`, where there is room for them.
+// The place after `width` bytes that are to be written at `pos`, where there is room for them. Apart from `consume`, because
+// each names its own refusal.
 pub fn reserve(buf: &[u8], pos: usize, width: usize) -> Result<usize, EncodeError>
     ensures answer { packed result ≡ room_at width buf.now pos }
     ensures inside { IfOk result (λ end. (end ≡ pos + width) × (end ≤ length buf.now)) }

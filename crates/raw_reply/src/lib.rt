@@ -14,7 +14,8 @@ use reply::{CommandReply, Kind};
 use tables::Sort;
 
 // A raw reply: its kind says which record it carries. The reader leaves zeros in the others. `FwInfo` has no number that is scaled, and
-// no flag, so it is its own raw record.
+// no flag, so it is its own raw record. It has the shape of `CommandReply`, and the readers below that of crate `reply`'s: one generic
+// reply would need a trait of four types and eight functions with laws, which is longer than both.
 #[derive(Clone, Copy)]
 pub struct RawReply {
     pub kind: Kind,

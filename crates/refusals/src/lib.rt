@@ -1,5 +1,6 @@
 // Why an answer is no. Ports `DecodeError` and `EncodeError` of src/command.rs; document 01, "Six
-// refusals", gives each its number and says what is returned with it. Document 02 adds the rest.
+// refusals", gives each its number and says what is returned with it. Document 02 adds the rest. Callers print the
+// number: README.md names the call `number`.
 #![tactic(auto)]
 
 ghost use Rattle.std.specs.Prelude.{◌≡◌};

@@ -50,6 +50,7 @@ fn answer(answers: &mut Answers, letter: u8, case: &[u8], stream: &[u8]) -> io::
 fn read_full(stdin: &mut impl Read, buf: &mut [u8]) -> usize
     ensures { result ≤ length buf.new }
 {
+    // No `read_exact`, which does not say how many bytes there were; and no `for`, because a read brings as many as it likes.
     let mut done: usize = 0;
     while done < buf.len() {
         match stdin.read(&mut buf[done..]) {

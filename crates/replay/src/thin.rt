@@ -27,6 +27,7 @@ pub(crate) fn start(buf: &[u8]) -> usize
     Unpacker::new(buf).pos
 }
 
+// One function for each method, because each promises another read.
 pub(crate) fn u8_at(buf: &[u8], pos: usize) -> Read<u8>
     ensures { number_told result ≡ unsigned_read 1 buf.now pos }
 {

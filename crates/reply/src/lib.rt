@@ -40,7 +40,7 @@ pub struct CommandReply {
 }
 
 impl Kind {
-    // A reply's number is its id.
+    // A reply's number is its id. README.md names this call.
     pub fn number(self) -> u8
         ensures { result ≡ kind_number self }
     {
@@ -91,6 +91,7 @@ pub fn masked_fields(payload: &[u8], sort: Sort) -> (u32, [u32; format::TABLE_RO
     (mask, tables::unpack_fields(payload, 5, sort, mask))
 }
 
+// This reader and the two after it differ in the field that they fill, which no parameter can name.
 fn unpack_get_values_selective(payload: &[u8]) -> CommandReply
     ensures { result ≡ get_values_selective_of payload.now }
 {

@@ -41,6 +41,7 @@ fn after_sequence(bytes: &[u8]) -> Option<&[u8]>
 pub fn well_formed(bytes: &[u8]) -> bool
     ensures { result ≡ well_formed bytes.now }
 {
+    // No `for`, because a sequence has one to four bytes.
     let mut left = bytes;
     while !left.is_empty() {
         let Some(rest) = after_sequence(left) else {

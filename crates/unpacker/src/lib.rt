@@ -29,7 +29,7 @@ fn name_end(error: DecodeError, buf: &[u8], pos: usize, room: usize) -> usize
 }
 
 // The Rust's `consume` tests before it moves, so that a number that is refused leaves the position as
-// it was.
+// it was. The methods keep the Rust's names, one for each sort of number.
 impl<'a> Unpacker<'a> {
     pub fn new(buf: &'a [u8]) -> Unpacker<'a>
         ensures { result ≡ fresh buf.entry }

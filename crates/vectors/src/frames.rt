@@ -76,13 +76,11 @@ fn front(rt: &impl Print, declared: u8, id: u8, count: usize) -> io::Result<()>
     judged(rt, judge::judge(&unending[..count]))
 }
 
-pub(crate) fn name_in_fw_version(rt: &impl Print) -> io::Result<()> {
+// A name without a NUL in FwVersion and in FwInfo, a byte short of its room and with all of it.
+pub(crate) fn names_without_nul(rt: &impl Print) -> io::Result<()> {
     println!(rt; "FwVersion with 38 and 39 bytes of a name:")?;
     front(rt, 105, 0, 43)?;
-    front(rt, 105, 0, 44)
-}
-
-pub(crate) fn name_in_fw_info(rt: &impl Print) -> io::Result<()> {
+    front(rt, 105, 0, 44)?;
     println!(rt; "FwInfo with 46 and 47 bytes of a name:")?;
     front(rt, 98, 157, 52)?;
     front(rt, 98, 157, 53)

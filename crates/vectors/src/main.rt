@@ -33,8 +33,7 @@ fn run(rt: &impl Print) -> io::Result<()> {
     frames::hops_before_alive(rt)?;
     frames::hops_before_set_rpm(rt)?;
     frames::million_hops(rt)?;
-    frames::name_in_fw_version(rt)?;
-    frames::name_in_fw_info(rt)?;
+    frames::names_without_nul(rt)?;
     worked::stream(rt)?;
     handed::states(rt)?;
     masks::records(rt)?;
