@@ -1,5 +1,5 @@
 // Masks: which telemetry fields a selective query asks for. Ports the three bitflags of src/command.rs, each as constants that
-// a caller joins by `|`.
+// a caller joins by `|`: `Command` takes the bits as a number, and README.md shows them so.
 ghost use Rattle.std.specs.Prelude.{◌++◌, ◌≡◌};
 ghost use Rattle.format.specs.Format.{values_bit_count, setup_bit_count, stats_bit_count};
 ghost use Rattle.command.specs.Masks.{powers};

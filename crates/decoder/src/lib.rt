@@ -14,7 +14,8 @@ use refusals::{DecodeError, FeedError};
 use reply::CommandReply;
 
 // The unread bytes are buf[rpos..wpos]; the figures count since `new`. `drained`: the last `next` gave
-// nothing, and no nonempty piece was fed since; or the decoder is fresh.
+// nothing, and no nonempty piece was fed since; or the decoder is fresh. The fields are public, and hold no invariant, because
+// document 01 takes a state that no calls make as a fresh one; `Settled` is a state that calls can make.
 #[derive(Clone, Copy)]
 pub struct Decoder {
     pub buf: [u8; format::CAPACITY],

@@ -14,7 +14,8 @@ use refusals::EncodeError;
 // A hop takes two bytes of the payload and a command at least one: more hops never fit.
 const HOPS_MAX: usize = (PAYLOAD_MAX - 1) / 2;
 
-// The length of a payload: two bytes for each of the hops not yet counted, and `plain` for the command.
+// The length of a payload: two bytes for each of the hops not yet counted, and `plain` for the command. It and the writer of the
+// hops are recursions and no loops, because document 01 asks for them so: "writing recurses on the hops left".
 fn payload_len(hops: &[u8], plain: usize) -> usize
     requires { (length hops.now ≤ 127) × (plain ≤ 5) }
     ensures { result ≡ 2 * length hops.now + plain }

@@ -171,6 +171,7 @@ pub fn unpack_fw_info(payload: &[u8]) -> FwInfo
     }
 }
 
+// The records with nothing in them: functions, because arrays of 39 and 47 bytes have no `Default` to derive from.
 pub fn no_raw_fw_version() -> RawFwVersion
     ensures { result ≡ no_raw_fw_version }
 {

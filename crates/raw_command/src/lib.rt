@@ -123,7 +123,8 @@ pub fn pack_parts(parts: Parts, buf: &mut [u8], pos: usize) -> Result<usize, Enc
     packer::pack_be(buf, next, width, parts.number)
 }
 
-// What follows each id. A flag is 0 or 1, so that no byte of one is above 1.
+// What follows each id. A flag is 0 or 1, so that no byte of one is above 1. The widths are those of `parts_of`: each of the two
+// is read by itself, and a third function for both would be no plainer.
 fn carried_by(id: CommandId) -> Carried
     ensures { (result.width ≡ width_of (form_of id)) × (result.most ≡ most_of (form_of id)) }
 {
