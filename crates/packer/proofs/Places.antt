@@ -1,16 +1,16 @@
 -- A read at a place: what follows from the test that its bytes are there, and a value made from the value read; bytes as they stand, and a part lent.
-use mathlib.Core.Path.{◌≡◌, refl, sym, ap, ◌∙◌}
+use mathlib.Core.Path.{◌≡◌, refl, ap, ◌∙◌}
 use mathlib.Core.Bool.{Bool, true, false, cond}
 use mathlib.Core.List.{List}
 use Prim.Native.Nat.{ℕ, ◌+◌, ◌-◌, ◌≤◌, ◌<◌}
 use native.Mathlib.Nat.{le_of_eq}
 use native.Mathlib.Omega.{arith}
 use lib.Dec.{leb}
-use lib.ListN.{length, take, drop, replicate, length-drop}
+use lib.ListN.{length, take, drop, length-drop}
 use lib.Seq.{take_all}
 use borrow.Author.Tests.{le-leb, lt-leb, leb-true, leb-false}
 use Rattle.std.specs.Prelude.{ok_or}
-use Rattle.std.specs.Prelude.{Some, None, Ok, Err}
+use Rattle.std.specs.Prelude.{Some, None}
 use Rattle.refusals.specs.Refusals.{Answer, Refusal, ok, refused, consumed, incomplete_data, buffer_too_small}
 use Rattle.refusals.specs.declared.DecodeError.TheVariants.{IncompleteData}
 use Rattle.refusals.specs.declared.EncodeError.TheVariants.{BufferTooSmall}

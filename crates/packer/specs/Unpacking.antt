@@ -1,6 +1,6 @@
 -- Reading at a position of a slice, document 01, "The envelope": "A read past the end of the slice is 1."
 -- What a reader returns is told by `consumed`.
-use Rattle.std.specs.Prelude.{◌≡◌, ℕ, ◌+◌, ◌^◌, ◌<◌, cond, List, leb, Option, Some, None, Result, Ok, Err, ℤ, Float, length, take, drop}
+use Rattle.std.specs.Prelude.{ℕ, ◌+◌, ◌^◌, ◌<◌, cond, List, leb, Option, Some, None, Result, Ok, Err, ℤ, Float, length, take, drop}
 use Rattle.std.specs.Float.Ieee as Ieee
 use Rattle.std.specs.Float.{binary32}
 use Rattle.refusals.specs.Refusals.{Answer, ok, refused, incomplete_data}

@@ -60,30 +60,18 @@ fn unpack_be(buf: &[u8], pos: usize, width: usize) -> Result<(u32, usize), Decod
     Ok((be(buf, pos, width), next))
 }
 
-// The two's complement reading of a number below 2 * `half`: `half` is the weight of its sign.
-fn signed(half: u32, number: u32) -> i32
-    requires { (half ≤ 2147483648) × (number < half * 2) }
-    ensures { result ≡ signed_of (half * 2) number }
-{
-    if number < half {
-        return number as i32;
-    }
-    let below = half - 1 - (number - half);
-    -1 - (below as i32)
-}
-
-// The Rust's `number as i32`. Rattle's own `as` is defined only where it loses nothing.
+// The Rust's `number as i32`.
 pub fn as_i32(number: u32) -> i32
     ensures { result ≡ signed_of 4294967296 number }
 {
-    signed(2147483648, number)
+    number.cast_signed()
 }
 
 // The Rust's `number as i16`, of the lowest 16 bits, in an i32.
 pub fn as_i16(number: u32) -> i32
     ensures { result ≡ signed_of 65536 (number % 65536) }
 {
-    signed(32768, number % 65536)
+    ((number % 65536) as u16).cast_signed() as i32
 }
 
 pub fn unpack_u32(buf: &[u8], pos: usize) -> Result<(u32, usize), DecodeError>
@@ -110,7 +98,7 @@ pub fn unpack_i16(buf: &[u8], pos: usize) -> Result<(i16, usize), DecodeError>
     ensures { consumed result ≡ signed_at 2 buf.now pos }
 {
     let (number, next) = unpack_be(buf, pos, 2)?;
-    Ok((signed(32768, number) as i16, next))
+    Ok(((number as u16).cast_signed(), next))
 }
 
 pub fn unpack_u8(buf: &[u8], pos: usize) -> Result<(u8, usize), DecodeError>
@@ -175,29 +163,18 @@ pub fn pack_be(buf: &mut [u8], pos: usize, width: usize, number: u32) -> Result<
     Ok(end)
 }
 
-// The bits of a signed number as an unsigned one; `last` is the largest of that width.
-fn unsigned(last: u32, value: i32) -> u32
-    requires { mag value ≤ last }
-    ensures { result ≡ unsigned_of (last + 1) value }
-{
-    if value < 0 {
-        return last - ((-1 - value) as u32);
-    }
-    value as u32
-}
-
 // The Rust's `value as u32`, the inverse of `as_i32`.
 pub fn as_u32(value: i32) -> u32
     ensures { result ≡ unsigned_of (256 ^ 4) value }
 {
-    unsigned(4294967295, value)
+    value.cast_unsigned()
 }
 
 // The Rust's `value as u16`, in a u32.
 pub fn as_u16(value: i16) -> u32
     ensures { result ≡ unsigned_of (256 ^ 2) value }
 {
-    unsigned(65535, value as i32)
+    value.cast_unsigned() as u32
 }
 
 pub fn pack_u32(buf: &mut [u8], pos: usize, value: u32) -> Result<usize, EncodeError>

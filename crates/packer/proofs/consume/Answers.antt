@@ -1,9 +1,4 @@
 -- `packer::consume` meets its contract: an Option with a refusal in place of None.
-use Rattle.std.proofs.Common.{◌≡◌, Bool, true, false, cond, ℕ, ◌+◌, length}
-use Rattle.std.specs.Prelude.{Some, None, Ok, Err}
-use Rattle.std.specs.Prelude.{ok_or}
-use lib.Dec.{leb}
-use Rattle.packer.specs.Unpacking.{consume_at}
 use Rattle.packer.proofs.Places.{told-consume}
 use Rattle.packer.proofs.consume.Goals as goal
 

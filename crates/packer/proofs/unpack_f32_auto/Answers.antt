@@ -1,5 +1,5 @@
 -- `packer::unpack_f32_auto` meets its contract.
-use mathlib.Core.Path.{◌≡◌, ◌∙◌}
+use mathlib.Core.Path.{◌≡◌}
 use borrow.Author.Rules.{rules}
 use Rattle.std.specs.Prelude.{Err}
 use lib.Ieee.{binary32, of_bits}

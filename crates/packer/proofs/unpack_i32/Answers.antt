@@ -1,5 +1,5 @@
 -- `packer::unpack_i32` meets its contract.
-use mathlib.Core.Path.{◌≡◌, ◌∙◌}
+use mathlib.Core.Path.{◌≡◌}
 use borrow.Author.Rules.{rules}
 use Rattle.std.specs.Prelude.{Err}
 use Rattle.packer.proofs.Complement.{called-i32}
