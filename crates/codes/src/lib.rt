@@ -43,8 +43,9 @@ pub enum FaultCode {
 }
 
 // What the hardware is.
-#[derive(Clone, Copy, Debug, PartialEq, Eq)]
+#[derive(Clone, Copy, Debug, Default, PartialEq, Eq)]
 pub enum HwType {
+    #[default]
     Vesc = 0,
     VescBms = 1,
     CustomModule = 2,
@@ -52,8 +53,9 @@ pub enum HwType {
 }
 
 // Which QML interface the hardware brings.
-#[derive(Clone, Copy, Debug, PartialEq, Eq)]
+#[derive(Clone, Copy, Debug, Default, PartialEq, Eq)]
 pub enum QmlHw {
+    #[default]
     None = 0,
     Embedded = 1,
     Fullscreen = 2,

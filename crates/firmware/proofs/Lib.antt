@@ -1,3 +1,4 @@
 pub mod Ends
 pub mod Raw
+pub mod Zeros
 pub mod Given

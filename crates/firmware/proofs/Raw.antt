@@ -31,7 +31,7 @@ version-raws (front, (hw_name_bytes, (uuid, (single, (fw_name_bytes, (crc, _))))
 info-raws : (r : RawsOf fw_info_layout) → Fits fw_info_layout r → info_raws (info_by r) ≡ r
 info-raws (front, (commit, (user, _))) (three, _) = λ i. (one_by_one (replicate 3 1) front three i, (commit, (user, tt)))
 
-pub no-version : version_from no_raw_fw_version ≡ no_fw_version
+no-version : version_from no_raw_fw_version ≡ no_fw_version
 unfolding hw_type_of qml_hw_of
 no-version = refl
 

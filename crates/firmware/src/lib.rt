@@ -13,7 +13,7 @@ ghost use Rattle.firmware.specs.Firmware.{fw_version_of, fw_info_of, no_fw_versi
 use codes::{HwType, QmlHw};
 
 // Firmware version data.
-#[derive(Clone, Copy, Debug, PartialEq, Eq)]
+#[derive(Clone, Copy, Debug, Default, PartialEq, Eq)]
 pub struct FwVersion {
     pub major: u8,
     pub minor: u8,
@@ -32,7 +32,7 @@ pub struct FwVersion {
 }
 
 // The same, each flag and kind as the byte that was carried.
-#[derive(Clone, Copy, Debug, PartialEq, Eq)]
+#[derive(Clone, Copy, Debug, Default, PartialEq, Eq)]
 pub struct RawFwVersion {
     pub major: u8,
     pub minor: u8,
@@ -51,7 +51,7 @@ pub struct RawFwVersion {
 }
 
 // Firmware build information.
-#[derive(Clone, Copy, Debug, PartialEq, Eq)]
+#[derive(Clone, Copy, Debug, Default, PartialEq, Eq)]
 pub struct FwInfo {
     pub major: u8,
     pub minor: u8,
@@ -171,42 +171,20 @@ pub fn unpack_fw_info(payload: &[u8]) -> FwInfo
     }
 }
 
-// The records with nothing in them: functions, because arrays of 39 and 47 bytes have no `Default` to derive from.
 pub fn no_raw_fw_version() -> RawFwVersion
     ensures { result ≡ no_raw_fw_version }
 {
-    RawFwVersion {
-        major: 0,
-        minor: 0,
-        hw_name: [0; format::FW_VERSION_NAME_MAX_LEN],
-        uuid: [0; 12],
-        pairing_done: 0,
-        test_version_number: 0,
-        hw_type: 0,
-        custom_config_num: 0,
-        has_phase_filters: 0,
-        qml_hw: 0,
-        qml_app: 0,
-        nrf_flags: 0,
-        fw_name: [0; format::FW_VERSION_NAME_MAX_LEN],
-        hw_crc: 0,
-    }
+    RawFwVersion::default()
 }
 
 pub fn no_fw_version() -> FwVersion
     ensures { result ≡ no_fw_version }
 {
-    FwVersion::from(no_raw_fw_version())
+    FwVersion::default()
 }
 
 pub fn no_fw_info() -> FwInfo
     ensures { result ≡ no_fw_info }
 {
-    FwInfo {
-        major: 0,
-        minor: 0,
-        test_version_number: 0,
-        commit_hash: [0; format::FW_INFO_COMMIT_HASH_MAX_LEN],
-        user_commit_hash: [0; format::FW_INFO_COMMIT_HASH_MAX_LEN],
-    }
+    FwInfo::default()
 }
