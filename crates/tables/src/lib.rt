@@ -90,7 +90,7 @@ static VALUES_TABLE: [Row; format::TABLE_ROWS] = [
     Row { bit: 21, width: 1 }, // status
 ];
 
-static SETUP_TABLE: [Row; 22] = [
+static SETUP_TABLE: [Row; format::SETUP_BITS] = [
     Row { bit: 0, width: 2 }, // temp_mosfet
     Row { bit: 1, width: 2 }, // temp_motor
     Row { bit: 2, width: 4 }, // avg_current_motor
@@ -115,7 +115,7 @@ static SETUP_TABLE: [Row; 22] = [
     Row { bit: 21, width: 4 }, // uptime_ms
 ];
 
-static STATS_TABLE: [Row; 11] = [
+static STATS_TABLE: [Row; format::STATS_BITS] = [
     Row { bit: 0, width: 4 }, // speed_avg
     Row { bit: 1, width: 4 }, // speed_max
     Row { bit: 2, width: 4 }, // power_avg
@@ -165,7 +165,8 @@ fn from_place(buf: &[u8], pos: usize) -> &[u8]
     &buf[pos.min(buf.len())..]
 }
 
-// The number of the `width` bytes at `at`.
+// The number of the `width` bytes at `at`. No call of packer's `be`, which asks that all its bytes are there: a byte past
+// the end is read as 0 here.
 fn number_at(part: &[u8], at: usize, width: usize) -> u32
     requires { (at ≤ 96) × (width ≤ 4) }
     ensures { result ≡ be_at part.now at width }
@@ -219,10 +220,7 @@ pub fn pack_fields(
 ) -> Result<usize, EncodeError>
     ensures { PackIs (digits (widths mask (table_of sort)) raw) buf.old pos result buf.new }
 {
-    let room = buf.len();
-    if room < pos || room - pos < span(sort, mask) {
-        return Err(EncodeError::BufferTooSmall);
-    }
+    packer::reserve(buf, pos, span(sort, mask))?;
     let mut at = pos;
     for (row, &number) in rows(sort).iter().zip(&raw) {
         at = packer::pack_be(buf, at, row.takes(mask), number)?;

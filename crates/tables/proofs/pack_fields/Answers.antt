@@ -6,20 +6,20 @@ use mathlib.Core.Path.{◌≡◌}
 use native.Mathlib.Omega.{arith}
 use borrow.Author.Rules.{rules}
 use lib.ListN.{length, length-append}
+use Rattle.std.specs.Prelude.{Err}
 use Rattle.std.proofs.lemmas.Slice.Zip.{zip_turn, zip_end}
-use Rattle.packer.proofs.Writes.{full-packed}
+use Rattle.packer.proofs.Places.{not_roomy}
+use Rattle.packer.proofs.Writes.{full-refused}
 use Rattle.tables.specs.Sorts.{table_of}
 use Rattle.tables.proofs.Turns.{few, rows-length, rows-size, row-bit, span-next, no-refusal, next-place, written_next, written-past}
 use Rattle.tables.proofs.pack_fields.Goals as goal
-use Rattle.tables.proofs.pack_fields.Goals.{then-room-pos-via-then-room-pos, then-room-pos-via-else-room-pos+then-room-pos-2}
 
-pub returns-then-room-pos : goal.returns-then-room-pos
-returns-then-room-pos c =
+pub returns-in_err-reserve : goal.returns-in_err-reserve
+returns-in_err-reserve c =
+    let passed : c.from_residual.result ≡ Err c.in_err-reserve.field-0.0 = search rules in
+    let out = not_roomy c.in_err-reserve.ensures.answer in
     let size = rows-size c.args.mask (table_of c.args.sort) c.args.raw 0 (omega (arith, few c.args.sort)) in
-    elim c.then-room-pos.branch [
-      | then-room-pos-via-then-room-pos w ↦ full-packed _ _ _ (omega (arith, size))
-      | then-room-pos-via-else-room-pos+then-room-pos-2 w ↦ full-packed _ _ _ (omega (arith, size))
-    ]
+    rw passed (full-refused _ _ _ (omega (arith, size, out.lacks, c.span.ensures)) _ out.says)
 
 pub takes-requires : goal.takes-requires
 takes-requires c =
