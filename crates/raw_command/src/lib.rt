@@ -3,6 +3,7 @@
 #![tactic(auto)]
 
 ghost use Rattle.std.specs.Prelude.{◌≡◌, false, ◌+◌, ◌≤◌, ◌<◌, eqb, length, get_or, ◌↔◌, IsTrue, EachIndex, slice_index};
+ghost use Rattle.format.specs.Format.{id_of};
 ghost use Rattle.packer.specs.Numbers.{be_at, signed_of};
 ghost use Rattle.packer.specs.Packing.{PackIs};
 ghost use Rattle.raw_command.specs.Commands.{form_of, width_of, most_of, plain_of, PartsIs, parts_bytes};
@@ -51,61 +52,51 @@ struct Carried {
     most: u8,
 }
 
-fn sent(id: u8, width: usize, number: u32) -> Parts
-    ensures { (result.id ≡ id) × (result.width ≡ width) × (result.number ≡ number) }
+// A number behind an id, in as many bytes as the id carries.
+fn sent(id: CommandId, number: u32) -> Parts
+    ensures { (result.id ≡ id_of id) × (result.width ≡ width_of (form_of id)) × (result.number ≡ number) }
 {
-    Parts { id, width, number }
+    Parts {
+        id: id as u8,
+        width: carried_by(id).width,
+        number,
+    }
 }
 
-// The parts of a plain command: the one place where each has its id, its width and its number. A flag is 0 or 1;
-// Shutdown's two are a byte each of one number.
+// The parts of a plain command: the one place where each has its id and its number; the width is what the id carries. A flag
+// is 0 or 1; Shutdown's two are a byte each of one number.
 pub fn parts_of(command: RawCommand) -> Parts
     ensures { PartsIs command result }
 {
     match command {
-        RawCommand::FwVersion => sent(CommandId::FwVersion as u8, 0, 0),
-        RawCommand::GetValues => sent(CommandId::GetValues as u8, 0, 0),
-        RawCommand::SetDuty(duty) => sent(CommandId::SetDuty as u8, 4, packer::as_u32(duty)),
-        RawCommand::SetCurrent(current) => sent(
-            CommandId::SetCurrent as u8,
-            4,
-            packer::as_u32(current),
-        ),
+        RawCommand::FwVersion => sent(CommandId::FwVersion, 0),
+        RawCommand::GetValues => sent(CommandId::GetValues, 0),
+        RawCommand::SetDuty(duty) => sent(CommandId::SetDuty, packer::as_u32(duty)),
+        RawCommand::SetCurrent(current) => sent(CommandId::SetCurrent, packer::as_u32(current)),
         RawCommand::SetCurrentBrake(current) => sent(
-            CommandId::SetCurrentBrake as u8,
-            4,
+            CommandId::SetCurrentBrake,
             packer::as_u32(current),
         ),
-        RawCommand::SetRpm(rpm) => sent(CommandId::SetRpm as u8, 4, packer::as_u32(rpm)),
-        RawCommand::SetPos(position) => sent(CommandId::SetPos as u8, 4, packer::as_u32(position)),
-        RawCommand::SetHandbrake(current) => sent(
-            CommandId::SetHandbrake as u8,
-            4,
-            packer::as_u32(current),
-        ),
-        RawCommand::Reboot => sent(CommandId::Reboot as u8, 0, 0),
-        RawCommand::Alive => sent(CommandId::Alive as u8, 0, 0),
-        RawCommand::GetValuesSelective(mask) => sent(CommandId::GetValuesSelective as u8, 4, mask),
-        RawCommand::GetValuesSetupSelective(mask) => sent(
-            CommandId::GetValuesSetupSelective as u8,
-            4,
-            mask,
-        ),
+        RawCommand::SetRpm(rpm) => sent(CommandId::SetRpm, packer::as_u32(rpm)),
+        RawCommand::SetPos(position) => sent(CommandId::SetPos, packer::as_u32(position)),
+        RawCommand::SetHandbrake(current) => sent(CommandId::SetHandbrake, packer::as_u32(current)),
+        RawCommand::Reboot => sent(CommandId::Reboot, 0),
+        RawCommand::Alive => sent(CommandId::Alive, 0),
+        RawCommand::GetValuesSelective(mask) => sent(CommandId::GetValuesSelective, mask),
+        RawCommand::GetValuesSetupSelective(mask) => sent(CommandId::GetValuesSetupSelective, mask),
         RawCommand::SetCurrentRel(current_rel) => sent(
-            CommandId::SetCurrentRel as u8,
-            4,
+            CommandId::SetCurrentRel,
             packer::as_u32(current_rel),
         ),
-        RawCommand::SetOdometer(odometer) => sent(CommandId::SetOdometer as u8, 4, odometer),
-        RawCommand::GetStats(mask) => sent(CommandId::GetStats as u8, 2, mask as u32),
-        RawCommand::ResetStats(ack) => sent(CommandId::ResetStats as u8, 1, u32::from(ack)),
+        RawCommand::SetOdometer(odometer) => sent(CommandId::SetOdometer, odometer),
+        RawCommand::GetStats(mask) => sent(CommandId::GetStats, mask as u32),
+        RawCommand::ResetStats(ack) => sent(CommandId::ResetStats, u32::from(ack)),
         RawCommand::Shutdown(force, restart) => sent(
-            CommandId::Shutdown as u8,
-            2,
+            CommandId::Shutdown,
             u32::from(force) * 256 + u32::from(restart),
         ),
-        RawCommand::FwInfo => sent(CommandId::FwInfo as u8, 0, 0),
-        RawCommand::MotorEstop(time) => sent(CommandId::MotorEstop as u8, 2, time as u32),
+        RawCommand::FwInfo => sent(CommandId::FwInfo, 0),
+        RawCommand::MotorEstop(time) => sent(CommandId::MotorEstop, time as u32),
     }
 }
 
@@ -123,8 +114,7 @@ pub fn pack_parts(parts: Parts, buf: &mut [u8], pos: usize) -> Result<usize, Enc
     packer::pack_be(buf, next, width, parts.number)
 }
 
-// What follows each id. A flag is 0 or 1, so that no byte of one is above 1. The widths are those of `parts_of`: each of the two
-// is read by itself, and a third function for both would be no plainer.
+// What follows each id, for writing and for reading. A flag is 0 or 1, so that no byte of one is above 1.
 fn carried_by(id: CommandId) -> Carried
     ensures { (result.width ≡ width_of (form_of id)) × (result.most ≡ most_of (form_of id)) }
 {
