@@ -7,11 +7,11 @@ use lib.ListN.{length, length-append}
 use Rattle.packer.specs.Numbers.{big_endian}
 use Rattle.packer.specs.Packing.{PackIs}
 use Rattle.std.specs.Prelude.{Result, Ok, Err}
+use Rattle.refusals.specs.Refusals.{encode_refusal, buffer_too_small}
 use Rattle.refusals.specs.declared.EncodeError.{EncodeError}
-use Rattle.refusals.specs.declared.EncodeError.TheVariants.{BufferTooSmall}
 use Rattle.refusals.proofs.Different.{none}
 use Rattle.refusals.proofs.Answers.{given-same}
-use Rattle.packer.proofs.Writes.{byte, digits-length, fits-answer, full-packed, two-packs}
+use Rattle.packer.proofs.Writes.{byte, digits-length, fits-answer, full-refused, two-packs}
 use Rattle.raw_command.specs.Commands.{form_of, plain_of, id_in, width_in, number_in, bytes_of, PartsIs, parts_bytes}
 use Rattle.raw_command.specs.declared.RawCommand.{RawCommand}
 use Rattle.raw_command.specs.declared.Parts.{Parts}
@@ -63,12 +63,14 @@ byte-behind n {at} {next} {l} {after} room w = let behind = ends-behind (byte-ro
 -- ---- the id, and then the number, are the bytes of the parts
 
 pub parts-packed
-    : {l m after : List ℕ} {at next : ℕ} {s : Result ℕ EncodeError} (parts : Parts) → parts.id < 256
-    → at + 1 + parts.width ≤ length l → PackIs (big_endian 1 parts.id) l at (Ok next) m
-    → PackIs (big_endian parts.width parts.number) m next s after → PackIs (parts_bytes parts) l at s after
-parts-packed parts small room w v =
-    then {p = parts.id ∷ []} {q = big_endian parts.width parts.number} (omega (arith, digits-length parts.width parts.number)) (rw (byte parts.id small) at w) v
+    : {l m after : List ℕ} {at next behind : ℕ} {s : Result ℕ EncodeError} (parts : Parts) → parts.id < 256 → behind ≡ at + 1
+    → behind + parts.width ≤ length l → PackIs (big_endian 1 parts.id) l at (Ok next) m
+    → PackIs (big_endian parts.width parts.number) m behind s after → PackIs (parts_bytes parts) l at s after
+parts-packed parts small is room w v =
+    two-packs {p = parts.id ∷ []} {q = big_endian parts.width parts.number} (omega (arith, digits-length parts.width parts.number)) (rw (byte parts.id small) at w)
+    (rw is at v)
 
 -- where they do not fit, nothing is written
-pub parts-no-room : (parts : Parts) (l : List ℕ) (at : ℕ) → length l < at + 1 + parts.width → PackIs (parts_bytes parts) l at (Err BufferTooSmall) l
-parts-no-room parts l at h = full-packed (parts_bytes parts) l at (omega (arith, digits-length parts.width parts.number))
+pub parts-no-room : (parts : Parts) (l : List ℕ) (at : ℕ) → length l < at + 1 + parts.width → (e : EncodeError) → encode_refusal e ≡ buffer_too_small
+    → PackIs (parts_bytes parts) l at (Err e) l
+parts-no-room parts l at h e says = full-refused (parts_bytes parts) l at (omega (arith, digits-length parts.width parts.number)) e says

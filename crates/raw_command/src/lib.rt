@@ -101,17 +101,15 @@ pub fn parts_of(command: RawCommand) -> Parts
 }
 
 // The bytes of a plain command at a position, its id first. Ports `Command::pack_into`, which leaves the id behind
-// if its value does not fit; this one then writes nothing.
+// if its value does not fit; this one then writes nothing. The room is asked for in two steps, since of any parts the id's
+// byte and `width` may be too many for one number.
 pub fn pack_parts(parts: Parts, buf: &mut [u8], pos: usize) -> Result<usize, EncodeError>
     ensures { PackIs (parts_bytes parts) buf.old pos result buf.new }
 {
-    let width = parts.width;
-    let room = buf.len();
-    if room <= width || room - width - 1 < pos {
-        return Err(EncodeError::BufferTooSmall);
-    }
-    let next = packer::pack_u8(buf, pos, parts.id)?;
-    packer::pack_be(buf, next, width, parts.number)
+    let behind = packer::reserve(buf, pos, 1)?;
+    packer::reserve(buf, behind, parts.width)?;
+    packer::pack_u8(buf, pos, parts.id)?;
+    packer::pack_be(buf, behind, parts.width, parts.number)
 }
 
 // What follows each id, for writing and for reading. A flag is 0 or 1, so that no byte of one is above 1.
