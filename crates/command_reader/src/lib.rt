@@ -62,7 +62,7 @@ pub fn read_command(buf: &[u8]) -> Result<CommandRead, DecodeError>
 }
 
 // The hop part of the command frame at the front of `buf`: those very bytes of the caller's. The empty part at the
-// front if the frame is refused. Reads the frame again; a caller who has its `CommandRead` can take the
+// front if the frame is refused: no Option, so that it is a part of the caller's slice in each case, as a name's text is. Reads the frame again; a caller who has its `CommandRead` can take the
 // `hops` bytes from byte 2 on instead.
 pub fn hop_part(buf: &[u8]) -> &[u8]
     ensures { (result.now ≡ hop_part_of buf.now) × (result.ref_ptr.0 ≡ buf.entry.ref_ptr.0) × (result.ref_ptr.1 ≡ buf.entry.ref_ptr.1 + part_place (read_of buf.now)) }

@@ -28,7 +28,7 @@ pub struct Decoder {
     pub drained: bool,
 }
 
-// The answer of `feed`: the bytes taken.
+// The answer of `feed`: the bytes taken. It and the two after it are no generic one, because README.md names their fields.
 #[derive(Clone, Copy)]
 pub struct Fed {
     pub count: usize,

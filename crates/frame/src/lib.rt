@@ -39,7 +39,7 @@ pub fn finish(buf: &[u8], n: u8) -> Result<usize, DecodeError>
 }
 
 // The frame at the front of `buf`, whatever its payload holds: where it ends, or why there is none. Byte 1 is the
-// length of the payload, which begins at byte 2.
+// length of the payload, which begins at byte 2. `judge::judge` tests the id too, and so waits for a byte more.
 pub fn open(buf: &[u8]) -> Result<usize, DecodeError>
     ensures { consumed result ≡ open_of buf.now }
 {

@@ -11,7 +11,7 @@ use refusals::DecodeError;
 
 // What the bytes from the first on are: a good frame, up to the place that is answered, or the refusal of
 // `decode`. A byte that starts no frame costs one comparison: it is judged before anything is called.
-// So the first tests are not those of `frame::open`, which are the same.
+// `frame::open` has the same first tests and waits for one byte less: one function for both would be no plainer.
 pub fn judge(buf: &[u8]) -> Result<usize, DecodeError>
     ensures { consumed result ≡ judge_of buf.now }
 {

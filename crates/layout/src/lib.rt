@@ -49,7 +49,7 @@ fn masked_end(part: &[u8], at: usize, sort: Sort) -> Result<usize, DecodeError>
     packer::consume(part, next, tables::span(sort, mask))
 }
 
-// The place after the fields that follow an id, which start at `at`.
+// The place after the fields that follow an id, which start at `at`. By the byte and no enum, because any byte may stand there.
 pub fn fields_end(part: &[u8], id: u8, at: usize) -> Result<usize, DecodeError>
     ensures { consumed result ≡ fields_end id part.now at }
 {

@@ -100,7 +100,7 @@ fn unpack_fw_info(payload: &[u8]) -> RawReply
     }
 }
 
-// The raw reply that a good frame's payload carries, by its id.
+// The raw reply that a good frame's payload carries, by its id. By the byte and not by `Kind`, because it takes every slice.
 fn raw_from(payload: &[u8]) -> RawReply
     ensures { result ≡ raw_reply_of payload.now }
 {

@@ -7,7 +7,7 @@ ghost use Rattle.replay.specs.InARow.{number_told, name_told, in_a_row, row_four
 use refusals::DecodeError;
 use unpacker::Unpacker;
 
-// What a read answers, and where it leaves the position.
+// What a read answers, and where it leaves the position: beside the answer, because a name that is refused moves it too.
 #[derive(Clone, Copy)]
 pub(crate) struct Read<T> {
     pub(crate) answer: Result<T, DecodeError>,

@@ -140,7 +140,7 @@ fn unpack_fw_info(payload: &[u8]) -> CommandReply
     }
 }
 
-// The reply that a good frame's payload carries, by its id.
+// The reply that a good frame's payload carries, by its id. By the byte and not by `Kind`, because it takes every slice.
 pub fn unpack_from(payload: &[u8]) -> CommandReply
     ensures { result ≡ reply_of payload.now }
 {

@@ -89,6 +89,7 @@ pub struct Stats {
     pub count_time: f32,
 }
 
+// Each record has its `has`, because a caller asks the record that he holds; the test stands in `tables`.
 impl Values {
     // Whether the readings of these bits of `ValuesMask` were sent, each of them.
     pub fn has(self, values_bits: u32) -> bool

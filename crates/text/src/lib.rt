@@ -8,7 +8,8 @@ ghost use Rattle.text.specs.Utf8.{table, range_of, stands, front_length, well_fo
 ghost use Rattle.text.specs.Text.{has_text, text_of, FoundText};
 
 // Unicode's table 3-7, a row a line, in its order: for each byte of the sequence the first and the
-// last of its range.
+// last of its range. Written out, and not left to std's `str::from_utf8`: it is the table of specs/Utf8.antt, and the must-fail
+// edits change its rows.
 const TABLE: [&[(u8, u8)]; 9] = [
     &[(0x00, 0x7F)],
     &[(0xC2, 0xDF), (0x80, 0xBF)],
@@ -61,7 +62,8 @@ fn text_len(name: &[u8]) -> Option<usize>
     well_formed(&name[..end]).then_some(end)
 }
 
-// Whether a name has a text: it tells an empty text from none.
+// Whether a name has a text: it tells an empty text from none. A call of its own, and `text` no Option, because document 01 asks
+// for the part "with its own yes or no for validity".
 pub fn has_text(name: &[u8]) -> bool
     ensures { result ≡ has_text name.now }
 {
