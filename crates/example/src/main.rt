@@ -121,7 +121,8 @@ fn offer(rt: &impl Print, decoder: Decoder, piece: &[u8]) -> io::Result<Decoder>
     Ok(fed.decoder)
 }
 
-// Offers a piece until all of it is taken: a drained decoder takes at least a byte of a nonempty one.
+// Offers a piece until all of it is taken: a drained decoder takes at least a byte of a nonempty one, so that its length is turns
+// enough. The turns are there so that the loop is seen to end.
 fn receive(rt: &impl Print, mut decoder: Decoder, piece: &[u8]) -> io::Result<Decoder> {
     let mut rest = piece;
     for _ in 0..piece.len() {
@@ -180,7 +181,7 @@ fn run(rt: &impl Print) -> io::Result<()> {
     chart(rt, lost.decoder)
 }
 
-// A write that fails is said on standard error.
+// A write that fails is said on standard error, with this program's name.
 fn main(rt: HostRuntime) {
     if let Err(error) = run(&rt) {
         let _ = eprintln!(rt; "example: standard output: {error}");

@@ -102,7 +102,8 @@ pub fn no_values() -> RawValues
     RawValues::default()
 }
 
-// The record of a mask, and of the raw numbers that the walk over it read, a row of the table each.
+// The record of a mask, and of the raw numbers that the walk over it read, a row of the table each; by their numbers, as in
+// `telemetry`, whose records have the same fields at other types.
 pub fn values_of(mask: u32, raw: [u32; format::TABLE_ROWS]) -> RawValues
     ensures { result ≡ raw_values_of mask raw }
 {

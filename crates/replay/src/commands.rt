@@ -29,6 +29,7 @@ impl From<u32> for Number {
     }
 }
 
+// A command's place in the list, with its number: `raw` of readers.rt has the other enum.
 fn plain(place: u8, n: Number) -> Command {
     match place {
         0 => Command::FwVersion,

@@ -147,7 +147,7 @@ fn run(rt: &HostRuntime) -> io::Result<()> {
     replay.all(&mut rt.stdin())
 }
 
-// A write that fails is said on standard error.
+// A write that fails is said on standard error, with this program's name.
 fn main(rt: HostRuntime) {
     if let Err(error) = run(&rt) {
         let _ = eprintln!(rt; "replay: standard output: {error}");

@@ -30,7 +30,8 @@ pub fn has_bits(mask: u32, bits: u32) -> bool
     mask & bits == bits
 }
 
-// Whether a mask has no bit but those of the reply's table.
+// Whether a mask has no bit but those of the reply's table. A match of its own, because a function that gave the number of bits
+// would need a bound for the shift besides.
 #[tactic(auto, unfolding(crate::specs::Sorts::known_bits))]
 pub fn known_bits(sort: Sort, mask: u32) -> bool
     ensures { result ≡ known_bits sort mask }

@@ -131,13 +131,15 @@ fn word_over(raw: u32, scale: f32) -> f32
     floats::scaled(packer::as_i32(raw), scale)
 }
 
+// The records with nothing in them, by the names that the specs have for them.
 pub fn no_values() -> Values
     ensures { result ≡ no_values }
 {
     Values::default()
 }
 
-// The record of a mask, and of the raw numbers that the walk over it read, a row of the table each.
+// The record of a mask, and of the raw numbers that the walk over it read, a row of the table each. The rows go by their
+// numbers: a pattern of 24 names would have each twice.
 pub fn values_of(mask: u32, raw: [u32; format::TABLE_ROWS]) -> Values
     ensures { result ≡ values_of mask raw }
 {

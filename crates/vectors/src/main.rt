@@ -40,7 +40,7 @@ fn run(rt: &impl Print) -> io::Result<()> {
     commands::payloads(rt)
 }
 
-// A write that fails is said on standard error.
+// A write that fails is said on standard error, with this program's name.
 fn main(rt: HostRuntime) {
     if let Err(error) = run(&rt) {
         let _ = eprintln!(rt; "vectors: standard output: {error}");
