@@ -121,8 +121,8 @@ fn offer(rt: &impl Print, decoder: Decoder, piece: &[u8]) -> io::Result<Decoder>
     Ok(fed.decoder)
 }
 
-// Offers a piece until all of it is taken: a drained decoder takes at least a byte of a nonempty one, so that its length is turns
-// enough. The turns are there so that the loop is seen to end.
+// Offers a piece until all of it is taken: a drained decoder takes at least a byte of a nonempty one.
+// So its length is turns enough, which are there so that the loop is seen to end.
 fn receive(rt: &impl Print, mut decoder: Decoder, piece: &[u8]) -> io::Result<Decoder> {
     let mut rest = piece;
     for _ in 0..piece.len() {
