@@ -137,7 +137,7 @@ impl From<u8> for QmlHw {
     }
 }
 
-// And back: the numbers of the Rust, 255 for the unknown.
+// And back: the numbers of the Rust, 255 for the unknown. One `From` for each kind, as Rust asks.
 impl From<FaultCode> for u8 {
     ghost from_gives = { λ fault byte. byte ≡ fault_number fault };
 

@@ -52,7 +52,8 @@ pub fn open(buf: &[u8]) -> Result<usize, DecodeError>
 }
 
 // Writes a frame around the `len` payload bytes that stand at byte 2 of `buf`, and returns the frame's size.
-// Tests 6 (PayloadTooLong), then 5 (BufferTooSmall); a refusal writes nothing.
+// Tests 6 (PayloadTooLong), then 5 (BufferTooSmall); a refusal writes nothing. Its callers test so themselves, each in its own order
+// of refusals, before they write a payload; it relies on none of them.
 pub fn wrap(len: usize, buf: &mut [u8]) -> Result<usize, EncodeError>
     ensures { WrapIs len buf.old result buf.new }
 {

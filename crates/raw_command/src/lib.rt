@@ -155,7 +155,7 @@ fn at_most(bytes: &[u8], most: u8) -> bool
     bytes.iter().all(|byte| *byte <= most)
 }
 
-// The four bytes behind the id.
+// The four bytes behind the id. By std and not by `packer`, because they are known to be there.
 #[tactic(auto, unfolding(packer::specs::Numbers::be_at))]
 fn word_in(bytes: &[u8]) -> u32
     requires { 5 ≤ length bytes.now }

@@ -1,5 +1,6 @@
 // The case of the masks: every constant of the three, in the order of the bits. And a record's mask asked for bits: the sort
-// of record (a byte), the mask and the bits (four bytes each).
+// of record (a byte), the mask and the bits (four bytes each). The names stand here as in crate `command`, so that each is asked
+// for as a caller asks.
 use crate::answers::Answers;
 use crate::cases;
 use command::{StatsMask, ValuesMask, ValuesSetupMask};

@@ -122,7 +122,8 @@ pub(crate) fn mix(answers: &mut Answers, reply: CommandReply) -> io::Result<()> 
     mix_fw_info(answers, reply.fw_info)
 }
 
-// A count, or the refusal with the values returned with it.
+// A count, or the refusal with the values returned with it, in the words of oracle/answers: no `Display` of `DecodeError`, which
+// would be these for no other program.
 pub(crate) fn count(answers: &mut Answers, answer: Result<usize, DecodeError>) -> io::Result<()> {
     let e = match answer {
         Ok(count) => return answers.given(count),

@@ -141,7 +141,8 @@ fn rows(sort: Sort) -> &'static [Row]
     }
 }
 
-// The bytes that the fields of a masked reply take.
+// The bytes that the fields of a masked reply take. The sort comes from the reader and the mask from the bytes or a record, so that
+// the two are no struct.
 pub fn span(sort: Sort, mask: u32) -> usize
     ensures { result ≡ total (widths mask (table_of sort)) }
 {

@@ -13,7 +13,8 @@ fn encoded(rt: &impl Print, answer: Result<usize, EncodeError>) -> io::Result<()
     }
 }
 
-// The number of bytes that were read, or document 01's number of the refusal and the values returned with it.
+// The number of bytes that were read, or document 01's number of the refusal and the values returned with it, in
+// the words of this program's stored output.
 pub(crate) fn judged(rt: &impl Print, answer: Result<usize, DecodeError>) -> io::Result<()> {
     let e = match answer {
         Ok(count) => return println!(rt; "good {count}"),
