@@ -67,6 +67,7 @@ pub fn encode(command: Command, hops: &[u8], buf: &mut [u8]) -> Result<usize, En
     }
     let len = payload_len(hops, command::command_len(command));
     let frame_len = len + FRAME_EXTRA;
+    // `wrap` tests both again, because it relies on no caller; here nothing is written yet.
     if PAYLOAD_MAX < len {
         return Err(EncodeError::PayloadTooLong); // refusal 6, tested before 5
     }

@@ -31,7 +31,7 @@ pub struct FwVersion {
     pub hw_crc: u32,
 }
 
-// The same, each flag and kind as the byte that was carried.
+// The same, each flag and kind as the byte that was carried: four fields have other types, and a caller names them.
 #[derive(Clone, Copy, Debug, Default, PartialEq, Eq)]
 pub struct RawFwVersion {
     pub major: u8,
@@ -70,7 +70,7 @@ fn name_or_zeros<const N: usize>(payload: &[u8], at: usize) -> ([u8; N], usize)
     names::unpack_c_string(payload, at).unwrap_or(([0; N], payload.len()))
 }
 
-// The first twelve bytes.
+// The first twelve bytes; of fewer, those and zeros, where `packer::unpack_uuid` refuses.
 fn uuid_of(part: &[u8]) -> [u8; 12]
     ensures { result ≡ numbers_at (replicate 12 1) part.now 0 }
 {
@@ -171,6 +171,7 @@ pub fn unpack_fw_info(payload: &[u8]) -> FwInfo
     }
 }
 
+// The records with nothing in them, by the names that the specs have for them.
 pub fn no_raw_fw_version() -> RawFwVersion
     ensures { result ≡ no_raw_fw_version }
 {

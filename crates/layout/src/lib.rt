@@ -1,5 +1,6 @@
 // Where the fields of a reply end. Ports of the replies' readers in src/command.rs how far they go; no record is
 // built. specs/Layout.antt and specs/Replies.antt describe each reply once, as a list of items.
+// The part and the place in it are two parameters: document 01 asks for the position by value.
 #![tactic(auto, using(crate::proofs::Steps::steps), unfolding(crate::specs::Layout::extent, crate::specs::Layout::extent_of, crate::specs::Replies::fields_end, crate::specs::Replies::layout_in, packer::specs::Numbers::total))]
 
 ghost use Rattle.std.specs.Prelude.{◌≡◌, [], ◌∷◌};

@@ -1,6 +1,7 @@
 // Names: bytes that end with a NUL, in a room of so many bytes. Ports `unpack_c_string` of
 // src/packer.rs, the position handed in and the place after the NUL handed back; document 01,
 // "Reply fields", has the rule.
+// The slice and the position are two parameters: document 01 asks for the position by value.
 #![tactic(auto)]
 
 ghost use Rattle.std.specs.Prelude.{◌≡◌, length, drop};

@@ -60,7 +60,7 @@ fn unpack_be(buf: &[u8], pos: usize, width: usize) -> Result<(u32, usize), Decod
     Ok((be(buf, pos, width), next))
 }
 
-// The Rust's `number as i32`.
+// The Rust's `number as i32`. It and the three like it are std's casts under clauses in the words of the specs.
 pub fn as_i32(number: u32) -> i32
     ensures { result ≡ signed_of 4294967296 number }
 {

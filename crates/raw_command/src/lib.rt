@@ -12,7 +12,7 @@ ghost use Rattle.raw_command.specs.Reading.{is_forward, numbered, plain_with, pl
 use format::CommandId;
 use refusals::{DecodeError, EncodeError};
 
-// A plain command with the whole number that is sent. `command::Command` has the values of a caller; `command::raw_of`
+// A plain command with the whole number that is sent. Not one generic enum with `command::Command`, which has the values of a caller; `command::raw_of`
 // turns them into these.
 #[derive(Clone, Copy, Debug, PartialEq, Eq)]
 pub enum RawCommand {

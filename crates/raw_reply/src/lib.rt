@@ -52,6 +52,7 @@ fn unpack_get_values(payload: &[u8]) -> RawReply
     }
 }
 
+// This reader and the two after it differ in the field that they fill, as those of `reply` do.
 fn unpack_get_values_selective(payload: &[u8]) -> RawReply
     ensures { result ≡ raw_as kind.GetValuesSelective payload.now }
 {

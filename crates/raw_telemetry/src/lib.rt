@@ -13,6 +13,7 @@ ghost use Rattle.raw_telemetry.specs.Records.{values_rows, setup_rows, stats_row
 
 use tables::one_byte;
 
+// No generic records with those of `telemetry`: each field has another type there.
 // What GetValues and GetValuesSelective carry, and the mask, whose bits are those of `ValuesMask`. GetValues carries no mask.
 #[derive(Clone, Copy, Debug, Default, PartialEq, Eq)]
 pub struct RawValues {
@@ -95,7 +96,7 @@ fn half(raw: u32) -> i16
     packer::as_i16(raw) as i16
 }
 
-// The record of GetValues and GetValuesSelective with nothing in it.
+// The record of GetValues and GetValuesSelective with nothing in it, by the name that the specs have for it.
 pub fn no_values() -> RawValues
     ensures { result ≡ no_raw_values }
 {

@@ -62,6 +62,7 @@ fn read_full(stdin: &mut impl Read, buf: &mut [u8]) -> usize
     done
 }
 
+// The answers and a case go to each reader as two: the answers outlive the case.
 // The answers, and the stream that a case with the letter L brought for those after it.
 #[derive(Drop)]
 struct Replay {

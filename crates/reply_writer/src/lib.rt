@@ -28,7 +28,8 @@ use refusals::{EncodeError, ReplyWriteError};
 use reply::Kind;
 use tables::Sort;
 
-// Whether the mask of the kind that is written has no bit but its table's. GetValues sends no mask.
+// Whether the mask of the kind that is written has no bit but its table's. GetValues sends no mask. Each match on the kind has other
+// arms beside the masked replies, so that a function for their sort and mask would be one match more.
 fn known_mask(reply: RawReply) -> bool
     ensures { result ≡ known_mask reply }
 {
@@ -245,7 +246,8 @@ pub fn write_reply(reply: RawReply, buf: &mut [u8]) -> Result<usize, ReplyWriteE
     if buf.len() < len + FRAME_EXTRA {
         return Err(ReplyWriteError::BufferTooSmall); // refusal 5, tested last
     }
-    // With room, neither refuses: no payload of a reply is too long for a frame.
+    // With room, neither refuses: no payload of a reply is too long for a frame, so that `ReplyWriteError` has no PayloadTooLong to
+    // be made by `From`.
     pack_payload(reply, buf).map_err(|_| ReplyWriteError::BufferTooSmall)?;
     frame::wrap(len, buf).map_err(|_| ReplyWriteError::BufferTooSmall)
 }

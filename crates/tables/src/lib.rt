@@ -160,7 +160,7 @@ pub fn byte_at(buf: &[u8], pos: usize) -> u8
     buf.get(pos).copied().unwrap_or(0)
 }
 
-// The slice from `pos` on, or nothing where that lies past the end.
+// The slice from `pos` on, or nothing where that lies past the end. A position by value, as document 01 asks.
 fn from_place(buf: &[u8], pos: usize) -> &[u8]
     ensures { result.now ≡ drop pos buf.now }
 {

@@ -35,6 +35,7 @@ impl<'a, R: Runtime> Line<'a, R> {
         Ok(())
     }
 
+    // `example` has the same loop, because README.md shows it whole.
     // Feeds a piece until it is taken. A drained decoder takes at least a byte of a nonempty piece, so its
     // length is turns enough.
     fn feed(&mut self, piece: &[u8]) -> Result<(), Failure> {
