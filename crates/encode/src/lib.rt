@@ -1,7 +1,7 @@
 // The frame of a command. Ports `encode` of src/command.rs; document 01, "Commands" and "Six refusals".
 #![tactic(auto)]
 
-ghost use Rattle.std.specs.Prelude.{◌≡◌, ◌+◌, ◌*◌, ◌≤◌, length};
+ghost use Rattle.std.specs.Prelude.{◌≡◌, ◌+◌, ◌*◌, ◌≤◌, length, Ok};
 ghost use Rattle.command.specs.Commands.{size_of};
 ghost use Rattle.encode.specs.Payload.{hop_bytes, payload_of};
 ghost use Rattle.packer.specs.Packing.{PackIs};
@@ -26,19 +26,22 @@ fn payload_len(hops: &[u8], plain: usize) -> usize
     }
 }
 
-// The forwarding prefix: the id of ForwardCan and its own for each of the hops not yet written.
-fn pack_hops(hops: &[u8], buf: &mut [u8], pos: usize) -> Result<usize, EncodeError>
+// The forwarding prefix: the id of ForwardCan and its own for each of the hops not yet written. Returns the place behind it, and
+// no Result, because there is room: so the recursion's result is a register, and each hop costs two bytes' writing.
+fn pack_hops(hops: &[u8], buf: &mut [u8], pos: usize) -> usize
     requires { pos + 2 * length hops.now ≤ length buf.old }
-    ensures { PackIs (hop_bytes hops.now) buf.old pos result buf.new }
+    ensures { PackIs (hop_bytes hops.now) buf.old pos (Ok result) buf.new }
 {
-    match hops {
-        [] => Ok(pos),
-        [id, rest @ ..] => {
-            let id_at = packer::pack_u8(buf, pos, FORWARD_CAN)?;
-            let next = packer::pack_u8(buf, id_at, *id)?;
-            pack_hops(rest, buf, next)
-        }
-    }
+    let [id, rest @ ..] = hops else {
+        return pos;
+    };
+    let Ok(id_at) = packer::pack_u8(buf, pos, FORWARD_CAN) else {
+        unreachable!();
+    };
+    let Ok(next) = packer::pack_u8(buf, id_at, *id) else {
+        unreachable!();
+    };
+    pack_hops(rest, buf, next)
 }
 
 // The hops, and then the command.
@@ -51,7 +54,7 @@ fn pack_payload(
     requires { pos + (2 * length hops.now + size_of command) ≤ length buf.old }
     ensures { PackIs (payload_of command hops.now) buf.old pos result buf.new }
 {
-    let next = pack_hops(hops, buf, pos)?;
+    let next = pack_hops(hops, buf, pos);
     command::pack_into(command, buf, next)
 }
 

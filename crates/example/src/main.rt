@@ -1,8 +1,12 @@
 // The examples of README.md: the code that it shows stands here, and the gate runs it. Each prints what it came to.
 #![tactic(auto)]
 
+use std::fmt::Display;
 use std::io;
-use vesc::{Command, Decoder, FeedError, Kind, RawCommand, StatsMask, ValuesMask, ValuesSetupMask};
+use vesc::{
+    Command, Decoder, FeedError, Kind, RawCommand, SetupValues, Stats, StatsMask, ValuesMask,
+    ValuesSetupMask,
+};
 
 fn encoding(rt: &impl Print) -> io::Result<()> {
     let mut buf = [0u8; 64];
@@ -33,10 +37,10 @@ fn decoding(rt: &impl Print, received: &[u8]) -> io::Result<()> {
 
 // A level of 0 is a flat pack only if it was sent.
 fn battery(rt: &impl Print, received: &[u8]) -> io::Result<()> {
-    let Ok((_, reply)) = vesc::decode(received) else {
-        return println!(rt; "no reply");
+    let values = match vesc::decode(received) {
+        Ok((_, reply)) => reply.setup_values,
+        Err(_) => SetupValues::default(),
     };
-    let values = reply.setup_values;
     if values.has(ValuesSetupMask::BATTERY_LEVEL) {
         println!(rt;
             "battery level in percent: {}",
@@ -48,10 +52,10 @@ fn battery(rt: &impl Print, received: &[u8]) -> io::Result<()> {
 }
 
 fn seconds(rt: &impl Print, received: &[u8]) -> io::Result<()> {
-    let Ok((_, reply)) = vesc::decode(received) else {
-        return println!(rt; "no reply");
+    let stats = match vesc::decode(received) {
+        Ok((_, reply)) => reply.stats,
+        Err(_) => Stats::default(),
     };
-    let stats = reply.stats;
     if stats.has(StatsMask::COUNT_TIME) {
         println!(rt; "seconds counted: {}", stats.count_time)?;
     }
@@ -181,9 +185,35 @@ fn run(rt: &impl Print) -> io::Result<()> {
     chart(rt, lost.decoder)
 }
 
-// A write that fails is said on standard error, with this program's name.
-fn main(rt: HostRuntime) {
-    if let Err(error) = run(&rt) {
-        let _ = eprintln!(rt; "example: standard output: {error}");
+// Standard output for the examples. A write that fails is said on standard error, with this program's name, and the
+// examples go on: a later write may get through.
+#[derive(Drop)]
+struct Said<'a, R>(&'a R);
+
+impl<'a, R: Eprint> Said<'a, R> {
+    fn checked(&self, written: io::Result<()>) -> io::Result<()> {
+        if let Err(error) = written {
+            let _ = eprintln!(self.0; "example: standard output: {error}");
+        }
+        Ok(())
     }
+}
+
+impl<'a, R: Print + Eprint> Print for Said<'a, R> {
+    fn print<D: Display + Drop>(&self, value: D) -> io::Result<()> {
+        self.checked(self.0.print(value))
+    }
+
+    fn println<D: Display + Drop>(&self, value: D) -> io::Result<()> {
+        self.checked(self.0.println(value))
+    }
+
+    fn write_all(&self, bytes: &[u8]) -> io::Result<()> {
+        self.checked(self.0.write_all(bytes))
+    }
+}
+
+fn main(rt: HostRuntime) {
+    // `Said` has said what failed.
+    let _ = run(&Said(&rt));
 }

@@ -1,15 +1,27 @@
-// Answers as text. A case's answer is one line; lines are gathered, so that many short answers are few writes. A word that
-// is too much for a line (a reply has 256) goes into a digest, which oracle/answers works out alike.
-use std::alloc::Global;
+// Answers as text. A case's answer is one line. A word that is too much for a line (a reply has 256) goes into a digest, which
+// oracle/answers works out alike.
+ghost use Rattle.std.specs.Prelude.{◌<◌};
+
+use crate::output::Output;
 use std::io;
-use std::io::{BufWriter, StdoutLock, Write};
+use std::io::Write;
 
 // Where the text goes, the digest of the case at hand, and whether its words are to be shown too.
 #[derive(Drop)]
 pub(crate) struct Answers {
-    pub(crate) out: BufWriter<StdoutLock<'static>, Global>,
+    pub(crate) out: Output,
     pub(crate) sum: u32,
     pub(crate) whole: bool,
+}
+
+fn hex_digit(value: u8) -> u8
+    requires { value < 16 }
+{
+    if value < 10 {
+        b'0' + value
+    } else {
+        b'a' - 10 + value
+    }
 }
 
 // One step of the digest: times a primitive root of the prime 4294967291, so that no two changes of sign cancel.
@@ -20,14 +32,16 @@ fn step(sum: u32, half: u32) -> u32 {
 impl Answers {
     // A word of 32 bits in hexadecimal, a space before it.
     pub(crate) fn word(&mut self, bits: u32) -> io::Result<()> {
-        write!(self.out, " {bits:08x}")
+        self.bytes(&bits.to_be_bytes())
     }
 
-    // Bytes, two digits each, a space before them.
+    // Bytes, two digits each, a space before them. Digit by digit, because most of the text is these, and a `write!` for each
+    // byte took three times the instructions.
     pub(crate) fn bytes(&mut self, bytes: &[u8]) -> io::Result<()> {
-        write!(self.out, " ")?;
-        for byte in bytes {
-            write!(self.out, "{byte:02x}")?;
+        self.out.put(b' ');
+        for &byte in bytes {
+            self.out.put(hex_digit(byte / 16));
+            self.out.put(hex_digit(byte % 16));
         }
         Ok(())
     }

@@ -8,6 +8,7 @@ mod answers;
 mod cases;
 mod commands;
 mod masks;
+mod output;
 mod readers;
 mod reads;
 mod replies;
@@ -20,8 +21,9 @@ ghost use Rattle.std.specs.Prelude.{◌≤◌, length};
 
 use answers::Answers;
 use arrayvec::ArrayVec;
+use output::Output;
 use std::io;
-use std::io::{BufWriter, Lock, Read, Write};
+use std::io::{Read, Write};
 
 // The longest case, and so the longest stream.
 const MOST: usize = 4096;
@@ -121,8 +123,8 @@ impl Replay {
         self.answers.sum = 1;
         self.answers.out.write_all(&head[..1])?;
         self.answer(head[0], case)?;
-        writeln!(self.answers.out, "")?;
-        Ok(true)
+        self.answers.out.end_line()?;
+        Ok(self.answers.out.ok)
     }
 
     // The input says when it ends; the count is there only so that the loop can be proved to end.
@@ -132,14 +134,15 @@ impl Replay {
                 break;
             }
         }
-        self.answers.out.flush()
+        self.answers.out.send();
+        Ok(())
     }
 }
 
 fn run(rt: &HostRuntime) -> io::Result<()> {
     let mut replay = Replay {
         answers: Answers {
-            out: BufWriter::with_capacity(rt.alloc(), 65536, rt.stdout().lock())?,
+            out: Output::new(rt.stdout(), rt.stderr()),
             sum: 1,
             whole: false,
         },
@@ -148,9 +151,7 @@ fn run(rt: &HostRuntime) -> io::Result<()> {
     replay.all(&mut rt.stdin())
 }
 
-// A write that fails is said on standard error, with this program's name.
 fn main(rt: HostRuntime) {
-    if let Err(error) = run(&rt) {
-        let _ = eprintln!(rt; "replay: standard output: {error}");
-    }
+    // `Output` has said what failed.
+    let _ = run(&rt);
 }

@@ -162,7 +162,7 @@ pub fn payload(frame: &[u8]) -> &[u8]
     ensures { result.now ≡ payload_in short frame.now }
 {
     if frame.len() < format::PAYLOAD_AT {
-        return &[];
+        return &frame[..0];
     }
     let part = &frame[format::PAYLOAD_AT..];
     let len = usize::from(frame[1]).min(part.len());

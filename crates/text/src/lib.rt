@@ -30,11 +30,12 @@ fn stands(row: &[(u8, u8)], bytes: &[u8]) -> bool
     row.len() <= bytes.len() && pairs.all(|(&(first, last), &byte)| first <= byte && byte <= last)
 }
 
-// The bytes after the sequence at their front, if one stands there.
-fn after_sequence(bytes: &[u8]) -> Option<&[u8]>
+// The bytes after the sequence at their front, if one stands there. `rows` are the table's rows.
+fn after_sequence<'a>(rows: &[&[(u8, u8)]], bytes: &'a [u8]) -> Option<&'a [u8]>
+    requires { map (λ row. map range_of row.now) rows.now ≡ table }
     ensures { MatchOption result (front_length table bytes.now ≡ 0) (λ rest. (0 < front_length table bytes.now) × (rest.now ≡ drop (front_length table bytes.now) bytes.now)) }
 {
-    let row = TABLE.iter().find(|row| stands(row, bytes))?;
+    let row = rows.iter().find(|row| stands(row, bytes))?;
     Some(&bytes[row.len()..])
 }
 
@@ -42,10 +43,12 @@ fn after_sequence(bytes: &[u8]) -> Option<&[u8]>
 pub fn well_formed(bytes: &[u8]) -> bool
     ensures { result ≡ well_formed bytes.now }
 {
+    // A constant array is made anew at each use, so it is lent to the loop once.
+    let rows: &[&[(u8, u8)]] = &TABLE;
     // No `for`, because a sequence has one to four bytes.
     let mut left = bytes;
     while !left.is_empty() {
-        let Some(rest) = after_sequence(left) else {
+        let Some(rest) = after_sequence(rows, left) else {
             return false;
         };
         left = rest;

@@ -5,11 +5,17 @@ use command::Command;
 use refusals::{DecodeError, EncodeError};
 use std::io;
 
+fn line(rt: &impl Print, word: &str, number: usize) -> io::Result<()> {
+    print!(rt; "{word}")?;
+    print!(rt; "{number}")?;
+    print!(rt; "\n")
+}
+
 // The number of bytes written, or document 01's number of the refusal.
 fn encoded(rt: &impl Print, answer: Result<usize, EncodeError>) -> io::Result<()> {
     match answer {
-        Ok(count) => println!(rt; "written {count}"),
-        Err(e) => println!(rt; "refused {}", e.number()),
+        Ok(count) => line(rt, "written ", count),
+        Err(e) => line(rt, "refused ", usize::from(e.number())),
     }
 }
 
@@ -17,22 +23,31 @@ fn encoded(rt: &impl Print, answer: Result<usize, EncodeError>) -> io::Result<()
 // the words of this program's stored output.
 pub(crate) fn judged(rt: &impl Print, answer: Result<usize, DecodeError>) -> io::Result<()> {
     let e = match answer {
-        Ok(count) => return println!(rt; "good {count}"),
+        Ok(count) => return line(rt, "good ", count),
         Err(e) => e,
     };
-    print!(rt; "refused {}", e.number())?;
+    print!(rt; "refused ")?;
+    print!(rt; "{}", e.number())?;
     match e {
-        DecodeError::IncompleteData | DecodeError::InvalidFrame => println!(rt; ""),
-        DecodeError::UnknownPacket { id } => println!(rt; ", id {id}"),
+        DecodeError::IncompleteData | DecodeError::InvalidFrame => {}
+        DecodeError::UnknownPacket { id } => {
+            print!(rt; ", id ")?;
+            print!(rt; "{id}")?;
+        }
         DecodeError::ChecksumMismatch { expected, actual } => {
-            println!(rt; ", expected {expected:04x}, actual {actual:04x}")
+            print!(rt; ", expected ")?;
+            print!(rt; "{expected:04x}")?;
+            print!(rt; ", actual ")?;
+            print!(rt; "{actual:04x}")?;
         }
     }
+    print!(rt; "\n")
 }
 
 pub(crate) fn bytes(rt: &impl Print, all: &[u8]) -> io::Result<()> {
     for &byte in all {
-        print!(rt; "{byte} ")?;
+        print!(rt; "{byte}")?;
+        print!(rt; " ")?;
     }
     Ok(())
 }

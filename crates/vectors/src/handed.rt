@@ -15,13 +15,24 @@ fn state(buf: [u8; 512], rpos: usize, wpos: usize, drained: bool) -> Decoder {
 }
 
 fn show(rt: &impl Print, what: &str, handed: Decoder) -> io::Result<()> {
+    print!(rt; "{what}")?;
     let fed = handed.gateway_feed(&[2]);
     match fed.answer {
-        Ok(count) => print!(rt; "{what}: taken {count}")?,
-        Err(e) => print!(rt; "{what}: refused {}", e.number())?,
+        Ok(count) => {
+            print!(rt; ": taken ")?;
+            print!(rt; "{count}")?;
+        }
+        Err(e) => {
+            print!(rt; ": refused ")?;
+            print!(rt; "{}", e.number())?;
+        }
     }
     let figures = fed.decoder.figures();
-    println!(rt; ", fed {}, held {}", figures.fed, figures.held)
+    print!(rt; ", fed ")?;
+    print!(rt; "{}", figures.fed)?;
+    print!(rt; ", held ")?;
+    print!(rt; "{}", figures.held)?;
+    print!(rt; "\n")
 }
 
 pub(crate) fn states(rt: &impl Print) -> io::Result<()> {

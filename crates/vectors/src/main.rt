@@ -8,21 +8,25 @@ mod commands;
 mod frames;
 mod handed;
 mod masks;
+mod said;
 mod worked;
 
+use said::Said;
 use std::io;
 
+// Here and in the other files each piece of a line is a write of its own, because a piece whose write fails is said by itself.
 fn check_value(rt: &impl Print) -> io::Result<()> {
-    println!(rt;
-        "checksum of 123456789: {:04x}",
-        checksum::checksum(b"123456789")
-    )
+    print!(rt; "checksum of 123456789: ")?;
+    print!(rt; "{:04x}", checksum::checksum(b"123456789"))?;
+    print!(rt; "\n")
 }
 
 // The bits of a whole number's reading over 1: 4b800000 is 16777216, 4b800002 is 16777220.
 fn reading(rt: &impl Print, raw: i32) -> io::Result<()> {
+    print!(rt; "read over 1: ")?;
     let value = floats::scaled(raw, 1.0);
-    println!(rt; "read over 1: {:08x}", floats::f32_to_bits(value))
+    print!(rt; "{:08x}", floats::f32_to_bits(value))?;
+    print!(rt; "\n")
 }
 
 fn run(rt: &impl Print) -> io::Result<()> {
@@ -40,9 +44,7 @@ fn run(rt: &impl Print) -> io::Result<()> {
     commands::payloads(rt)
 }
 
-// A write that fails is said on standard error, with this program's name.
 fn main(rt: HostRuntime) {
-    if let Err(error) = run(&rt) {
-        let _ = eprintln!(rt; "vectors: standard output: {error}");
-    }
+    // `Said` has said what failed.
+    let _ = run(&Said(&rt));
 }

@@ -8,13 +8,15 @@ fn show(rt: &impl Print, what: &str, frame: &[u8]) -> io::Result<()> {
         Ok((_, reply)) => reply,
         Err(_) => reply::empty(),
     };
-    print!(rt; "{what} {:08x}", reply.values.mask)?;
-    print!(rt; " {:08x}", reply.setup_values.mask)?;
-    print!(rt; " {:08x}", reply.stats.mask)?;
+    print!(rt; "{what}")?;
+    for mask in [reply.values.mask, reply.setup_values.mask, reply.stats.mask] {
+        print!(rt; " ")?;
+        print!(rt; "{mask:08x}")?;
+    }
     if reply.setup_values.has(ValuesSetupMask::BATTERY_LEVEL) {
         print!(rt; ", battery level sent")?;
     }
-    println!(rt; "")
+    print!(rt; "\n")
 }
 
 // A frame of GetValues in which every field is 0.

@@ -21,9 +21,11 @@ pub(crate) fn stream(rt: &impl Print) -> io::Result<()> {
     if next.given.is_none() {
         print!(rt; "nothing given, ")?;
     }
-    print!(rt; "{} held; ", next.decoder.held())?;
+    print!(rt; "{}", next.decoder.held())?;
+    print!(rt; " held; the reply comes at byte ")?;
     match reply_at(next.decoder) {
-        Some(byte) => println!(rt; "the reply comes at byte {byte}"),
-        None => println!(rt; "no reply comes"),
+        Some(byte) => print!(rt; "{byte}")?,
+        None => print!(rt; "none")?,
     }
+    print!(rt; "\n")
 }

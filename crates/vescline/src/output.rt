@@ -24,9 +24,11 @@ impl<'a, R: Runtime> Output<'a, R> {
         }
     }
 
-    // The id on a line of its own. What waits is written first where a line of 3 digits might not fit.
+    // The id on a line of its own. What waits is written first if fewer than 8 bytes are free. A line needs only 4, but then
+    // lines of 4 bytes would go out in writes of 4,096. A file that is full at a multiple of that would take such a write whole,
+    // and the next one might end in SIGXFSZ, with no message. A write of 4,092 bytes is cut short there, and that is said.
     pub(crate) fn id(&mut self, id: u8) -> Result<(), Failure> {
-        if self.text.remaining_capacity() < 4 {
+        if self.text.remaining_capacity() < 8 {
             self.flush()?;
         }
         let mut digits = itoa::Buffer::new();

@@ -8,24 +8,24 @@ use Rattle.encode.proofs.Payloads.{rest-length}
 use Rattle.encode.proofs.Writes.{none, hop-packed}
 use Rattle.encode.proofs.+pack_hops.Goals as goal
 
-pub returns-in-empty : goal.returns-in-empty
-returns-in-empty t c = none c.args.hops.now _ _ c.in-empty.len_below (omega arith)
+pub returns-in_default : goal.returns-in_default
+returns-in_default t c = none c.args.hops.now _ _ c.in_default.len_below (omega arith)
 
-pub returns-in_err-id_at-in-len1-up : goal.returns-in_err-id_at-in-len1-up
-returns-in_err-id_at-in-len1-up t c = never-refused (byte-room _ _ _ (omega arith)) c.in_err-id_at-in-len1-up.ensures
+pub unreachable-requires : goal.unreachable-requires
+unreachable-requires t c = never-refused (byte-room _ _ _ (omega arith)) c.in_default-pack_u8.ensures
 
-pub returns-in_err-next-in-len1-up : goal.returns-in_err-next-in-len1-up
-returns-in_err-next-in-len1-up t c =
-    let there : c.in_ok-id_at-in-len1-up.id_at ≡ c.args.pos + 1 = byte-behind _ (omega arith) c.in_ok-id_at-in-len1-up.ensures in
-    never-refused (byte-room _ _ _ (omega arith)) c.in_err-next-in-len1-up.ensures
+pub unreachable-requires-in_default-pack_u8-2 : goal.unreachable-requires-in_default-pack_u8-2
+unreachable-requires-in_default-pack_u8-2 t c =
+    let there : c.in-Ok.id_at ≡ c.args.pos + 1 = byte-behind _ (omega arith) c.in-Ok.ensures in
+    never-refused (byte-room _ _ _ (omega arith)) c.in_default-pack_u8-2.ensures
 
 pub pack_hops-requires : goal.pack_hops-requires
 pack_hops-requires t c =
     let rest = rest-length c.args.hops.now c.in-len1-up.len_at_least in
-    let there : c.in_ok-id_at-in-len1-up.id_at ≡ c.args.pos + 1 = byte-behind _ (omega arith) c.in_ok-id_at-in-len1-up.ensures in
-    let next : c.in_ok-next-in-len1-up.next ≡ c.in_ok-id_at-in-len1-up.id_at + 1 = byte-behind _ (omega arith) c.in_ok-next-in-len1-up.ensures in
+    let there : c.in-Ok.id_at ≡ c.args.pos + 1 = byte-behind _ (omega arith) c.in-Ok.ensures in
+    let next : c.in-Ok-pack_u8.next ≡ c.in-Ok.id_at + 1 = byte-behind _ (omega arith) c.in-Ok-pack_u8.ensures in
     (omega arith, omega arith)
 
-pub returns-in_ok-next-in-len1-up : goal.returns-in_ok-next-in-len1-up
-returns-in_ok-next-in-len1-up t c =
-    hop-packed c.args.hops.now c.in-len1-up.len_at_least (search rules) (omega arith) c.in_ok-id_at-in-len1-up.ensures c.in_ok-next-in-len1-up.ensures c.pack_hops.ensures
+pub returns : goal.returns
+returns t c =
+    hop-packed c.args.hops.now c.in-len1-up.len_at_least (search rules) (omega arith) c.in-Ok.ensures c.in-Ok-pack_u8.ensures c.pack_hops.ensures
